@@ -1,0 +1,4 @@
+pub mod Numbers
+pub mod Splitting
+pub mod Lines
+pub mod Tables

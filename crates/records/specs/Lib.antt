@@ -1,0 +1,3 @@
+pub mod Faults
+pub mod Packed
+pub mod PlanFile
