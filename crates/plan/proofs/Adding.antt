@@ -19,7 +19,7 @@ use Rattle.std.proofs.shelf.Lists.{take-more-set}
 use Rattle.std.proofs.shelf.Sums.{sumBy-push}
 use Rattle.plan.specs.declared.fault.PlanFault.{PlanFault}
 use Rattle.plan.specs.declared.terms.Terms.{Terms}
-use Rattle.plan.specs.Terms.{commonMultiple, weightOf, badPeriod, badBudget, blank}
+use Rattle.plan.specs.Terms.{commonMultiple, mostRows, weightOf, badPeriod, badBudget, blank}
 use Rattle.plan.specs.Plan.{refusal, loadOf, answerFor, rowsFor, added, rowsAfter}
 
 -- what a row's own terms keep
@@ -29,7 +29,7 @@ Sound t = (1 ≤ t .budget) × (t .budget ≤ t .period) × (commonMultiple % t 
 pub sound-terms : (t : Terms) → badPeriod (t .period) ≡ false → badBudget (t .budget) (t .period) ≡ false → Sound t
 sound-terms t p q = (grind (arith, tells), grind (arith, tells), grind (arith, tells))
 
-pub no-refusal : (rows : List Terms) (t : Terms) → length rows < 32 → badPeriod (t .period) ≡ false → badBudget (t .budget) (t .period) ≡ false → loadOf rows + weightOf t ≤ commonMultiple → refusal rows t ≡ None
+pub no-refusal : (rows : List Terms) (t : Terms) → length rows < mostRows → badPeriod (t .period) ≡ false → badBudget (t .budget) (t .period) ≡ false → loadOf rows + weightOf t ≤ commonMultiple → refusal rows t ≡ None
 no-refusal rows t few p q light = grind (arith, tells)
 
 pub sound-more : (rows : List Terms) (n : ℕ) (t : Terms) → n < length rows → ((k : ℕ) → k < n → Sound (getD rows k blank)) → Sound t → (k : ℕ) → k < n + 1 → Sound (getD (set rows n t) k blank)
@@ -50,7 +50,7 @@ refused-keeps rows t f e = by-reason (refusal rows t) e
     by-reason (Some g) same = refl
 
 -- sound terms that the rows have room for are taken
-pub takes-sound : (rows : List Terms) (t : Terms) → length rows < 32 → Sound t → loadOf rows + weightOf t ≤ commonMultiple → refusal rows t ≡ None
+pub takes-sound : (rows : List Terms) (t : Terms) → length rows < mostRows → Sound t → loadOf rows + weightOf t ≤ commonMultiple → refusal rows t ≡ None
 takes-sound rows t few sound light = no-refusal rows t few (good-period t sound) (good-budget t sound) light
   where
     good-period : (t : Terms) → Sound t → badPeriod (t .period) ≡ false

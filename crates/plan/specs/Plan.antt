@@ -13,11 +13,7 @@ use Rattle.plan.specs.declared.table.Plan.{Plan}
 use Rattle.plan.specs.declared.terms.Terms.{Terms}
 use Rattle.plan.specs.declared.fault.PlanFault.{PlanFault}
 use Rattle.plan.specs.declared.fault.PlanFault.the-variants.{Full, Period, Budget, Weight}
-use Rattle.plan.specs.Terms.{commonMultiple, weightOf, badPeriod, badBudget, blank}
-
--- how many rows a plan can have
-abbrev pub mostRows : ℕ
-mostRows = 32
+use Rattle.plan.specs.Terms.{commonMultiple, mostRows, weightOf, badPeriod, badBudget, blank}
 
 -- the rows of a plan, in the order of their numbers
 abbrev pub rowsOf : Plan → List Terms

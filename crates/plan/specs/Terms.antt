@@ -9,6 +9,10 @@ use Rattle.plan.specs.declared.terms.Terms.{Terms}
 abbrev pub commonMultiple : ℕ
 commonMultiple = 14400
 
+-- how many rows a plan can have
+abbrev pub mostRows : ℕ
+mostRows = 32
+
 -- a period that no server may have: zero, or no divisor of the common multiple
 abbrev pub badPeriod : ℕ → Bool
 badPeriod p = eqb p 0 || not (eqb (commonMultiple % p) 0)

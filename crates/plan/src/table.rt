@@ -3,7 +3,7 @@ ghost use mathlib.Core.Path.{_≡_};
 ghost use Prim.Native.Nat.{ℕ, _%_, _<_, _≤_};
 ghost use lib.ListN.{length, take, getD};
 ghost use Rattle.std.specs.shelf.Lists.{sumBy};
-ghost use Rattle.plan.specs.Terms.{commonMultiple, weightOf, blank};
+ghost use Rattle.plan.specs.Terms.{commonMultiple, mostRows, weightOf, blank};
 use crate::terms::Kind;
 use crate::terms::Terms;
 
@@ -21,8 +21,8 @@ pub struct Plan {
     rows: [Terms; MOST_ROWS],
     count: usize,
     load: u32,
-    ghost whole: { length rows ≡ 32 },
-    ghost room: { count ≤ 32 },
+    ghost whole: { length rows ≡ mostRows },
+    ghost room: { count ≤ mostRows },
     ghost loads: { load ≡ sumBy weightOf (take count rows) },
     ghost light: { load ≤ commonMultiple },
     ghost sound: { (k : ℕ) → k < count → (1 ≤ getD rows k blank .budget) × (getD rows k blank .budget ≤ getD rows k blank .period) × (commonMultiple % getD rows k blank .period ≡ 0) },

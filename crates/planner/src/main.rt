@@ -8,6 +8,7 @@ use plan_text::parse_plan;
 use plan_text::table;
 use records::read_plan;
 use records::write_plan;
+use records::writing::MOST_PLAN_BYTES;
 use std::env;
 use std::error::AnyError;
 use std::fs;
@@ -25,9 +26,6 @@ of a quarter of a millisecond. '#' starts a comment.
 
 /// Longer files are not read: the longest plan file has 129 bytes.
 const MOST_BYTES: usize = 1_048_576;
-
-/// How many bytes the longest plan file has.
-const MOST_PLAN_BYTES: usize = 129;
 
 /// Says what is wrong on standard error, and ends the program with status 1.
 fn fail<T>(rt: &LibcRuntime, why: &str) -> Result<T, AnyError> {

@@ -19,7 +19,7 @@ use Rattle.bits.specs.Fields.{fieldAt, hasField}
 use Rattle.bits.proofs.Fields.{byte-field}
 use Rattle.plan.specs.declared.table.Plan.{Plan}
 use Rattle.plan.specs.declared.terms.Terms.{Terms}
-use Rattle.plan.specs.Terms.{commonMultiple, weightOf, blank}
+use Rattle.plan.specs.Terms.{commonMultiple, mostRows, weightOf, blank}
 use Rattle.plan.specs.Plan.{rowsOf, loadOf, added, rowsAfter, answerFor, rowsFor, refusal}
 use Rattle.plan.proofs.Adding.{Sound, takes-sound, period-le}
 use Rattle.records.specs.Packed.{kindBit, kindOf, rowWord, bytesOf, packedRow, packedPlan}
@@ -89,7 +89,7 @@ module _ (front : List ℕ) (t : Terms) (back : List ℕ) (sound : Sound t) wher
 
 -- rows that a plan could have behind others
 pub record Fit (before more : List Terms) : Type 0 where
-  pub few : length before + length more ≤ 32
+  pub few : length before + length more ≤ mostRows
   pub light : loadOf before + loadOf more ≤ commonMultiple
   pub sound : All Sound more
 

@@ -23,6 +23,10 @@ use bits::write_field;
 use plan::Kind;
 use plan::Plan;
 use plan::Terms;
+use plan::table::MOST_ROWS;
+
+/// How many bytes the longest plan file has.
+pub const MOST_PLAN_BYTES: usize = 1 + 4 * MOST_ROWS;
 
 /// How many bytes the packed form of a plan has.
 pub fn packed_length(plan: &Plan) -> usize
