@@ -1,0 +1,3 @@
+pub mod Rules
+pub mod Tally
+pub mod Allowance
