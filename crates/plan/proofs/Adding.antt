@@ -10,17 +10,19 @@ use borrow.Author.Count.{below-more}
 use lib.Dec.{leb, ltb, eqb}
 use lib.ListN.{length, take, getD, set}
 use lib.Seq.{getD-set-same, getD-set-other}
-use Rattle.std.specs.shelf.Lists.{sumBy}
+use Rattle.std.specs.shelf.Lists.{All, sumBy}
 use Rattle.std.specs.declared.option.Option.{Option}
 use Rattle.std.specs.declared.option.Option.the-variants.{Some, None}
 use Rattle.std.specs.declared.result.Result.the-variants.{Err}
 use Rattle.std.proofs.shelf.Ways.{tells}
-use Rattle.std.proofs.shelf.Lists.{take-more-set}
+use Rattle.std.proofs.shelf.Lists.{take-more-set, getD-take, length-take}
+use Rattle.std.proofs.shelf.Elements.{all-from-getD}
 use Rattle.std.proofs.shelf.Sums.{sumBy-push}
 use Rattle.plan.specs.declared.fault.PlanFault.{PlanFault}
+use Rattle.plan.specs.declared.table.Plan.{Plan}
 use Rattle.plan.specs.declared.terms.Terms.{Terms}
 use Rattle.plan.specs.Terms.{commonMultiple, mostRows, weightOf, badPeriod, badBudget, blank}
-use Rattle.plan.specs.Plan.{refusal, loadOf, answerFor, rowsFor, added, rowsAfter}
+use Rattle.plan.specs.Plan.{rowsOf, refusal, loadOf, answerFor, rowsFor, added, rowsAfter}
 
 -- what a row's own terms keep
 abbrev pub Sound : Terms → Type 0
@@ -66,3 +68,10 @@ period-le t sound =
   where
     cases-le : (m n : ℕ) → (m ≤ n) ⊎ (n < m)
     cases-le m n = grind arith
+
+-- the rows of a plan are sound
+pub row-sound : (p : Plan) (k : ℕ) → k < p .count → Sound (getD (rowsOf p) k blank)
+row-sound p k inside = rw getD-take (p .sound k inside)
+
+pub rows-sound : (p : Plan) → All Sound (rowsOf p)
+rows-sound p = all-from-getD Sound (rowsOf p) blank (λ k h. row-sound p k (omega (arith, length-take (p .count) (p .rows))))

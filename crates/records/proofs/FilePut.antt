@@ -10,9 +10,8 @@ use Rattle.plan.specs.declared.table.Plan.{Plan}
 use Rattle.plan.specs.declared.terms.Terms.{Terms}
 use Rattle.plan.specs.Terms.{blank}
 use Rattle.plan.specs.Plan.{rowsOf}
-use Rattle.plan.proofs.Adding.{Sound, period-le}
+use Rattle.plan.proofs.Adding.{Sound, period-le, row-sound}
 use Rattle.records.specs.Packed.{packedRow, packedPlan, packedLength}
-use Rattle.records.proofs.RoundTrip.{row-sound}
 
 pub length-rows : (rows : List Terms) → length (joined packedRow rows) ≡ 4 * length rows
 length-rows [] = refl

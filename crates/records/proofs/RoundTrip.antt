@@ -11,17 +11,16 @@ use Rattle.std.specs.declared.option.Option.the-variants.{None}
 use Rattle.std.specs.declared.result.Result.{Result}
 use Rattle.std.specs.declared.result.Result.the-variants.{Ok, Err}
 use Rattle.std.proofs.shelf.Bits.{div-mul-add, mod-mul-add}
-use Rattle.std.proofs.shelf.Elements.{all-from-getD}
-use Rattle.std.proofs.shelf.Lists.{getD-append-add, getD-take, append-nil, length-push, length-take}
+use Rattle.std.proofs.shelf.Lists.{getD-append-add, append-nil, length-push, length-take}
 use Rattle.std.proofs.shelf.Sums.{sumBy-cons, sumBy-push}
 use Rattle.std.proofs.shelf.Tests.{le-leb, eq-eqb, le-ltb}
 use Rattle.bits.specs.Fields.{fieldAt, hasField}
 use Rattle.bits.proofs.Fields.{byte-field}
 use Rattle.plan.specs.declared.table.Plan.{Plan}
 use Rattle.plan.specs.declared.terms.Terms.{Terms}
-use Rattle.plan.specs.Terms.{commonMultiple, mostRows, weightOf, blank}
+use Rattle.plan.specs.Terms.{commonMultiple, mostRows, weightOf}
 use Rattle.plan.specs.Plan.{rowsOf, loadOf, added, rowsAfter, answerFor, rowsFor, refusal}
-use Rattle.plan.proofs.Adding.{Sound, takes-sound, period-le}
+use Rattle.plan.proofs.Adding.{Sound, takes-sound, period-le, rows-sound}
 use Rattle.records.specs.Packed.{kindBit, kindOf, rowWord, bytesOf, packedRow, packedPlan}
 use Rattle.records.specs.PlanFile.{rowRead, termsAt, rowTaken, onward, rowsFrom, inFile, countRead, planRead}
 use Rattle.records.proofs.Rows.{field, field-below, word, word-of-bytes, field-of-bytes, field-of-row, kind-bit, kind-kept, kind-below}
@@ -131,13 +130,10 @@ round-trip rows fit =
     let count : countRead b ≡ Ok (length rows) = rw some (ap Ok first) in
     ap (λ r. onward (inFile r) 0 (λ n. rowsFrom b 1 n [])) count ∙ reads-rows (length rows ∷ []) [] rows fit
 
-pub row-sound : (p : Plan) (k : ℕ) → k < p .count → Sound (getD (rowsOf p) k blank)
-row-sound p k inside = rw getD-take (p .sound k inside)
-
 -- and every plan has such rows
 pub plan-fits : (p : Plan) → Fit [] (rowsOf p)
 plan-fits p = record {
   few = omega (arith, length-take (p .count) (p .rows), p .room);
   light = omega (arith, p .light, p .loads);
-  sound = all-from-getD Sound (rowsOf p) blank (λ k h. row-sound p k (omega (arith, length-take (p .count) (p .rows))));
+  sound = rows-sound p;
 }

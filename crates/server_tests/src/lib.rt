@@ -2,12 +2,17 @@
 #[cfg(test)]
 mod tests {
     use plan::Kind;
+    use plan::Plan;
     use plan::Terms;
+    use plan::fault::PlanFaultDebug;
+    use plan::fault::PlanFaultPartialEq;
     use server::Account;
     use server::Event;
     use server::Instant;
     use server::Phase;
     use server::Row;
+    use server::Table;
+    use server::offer_of;
     use server::row::RowDebug;
     use server::row::RowPartialEq;
     use std::test::*;
@@ -249,6 +254,71 @@ mod tests {
         found.charge_own();
         check_eq(found, row(Phase::Supplying, 2, 0, 48, 1))?;
         check_eq(Row::fresh(5, found.terms), row(Phase::Resting, 0, 0, 0, 0))
+    }
+
+    // what the row offers at this instant to a thief with this deadline: a deadline and a capacity
+    fn offers(row: Row, ticks: u32, deadline: u32, offer: Option<(u32, u16)>) -> Result<(), Fail> {
+        let found = match offer_of(&row, instant(ticks)?, deadline) {
+            None => None,
+            Some(shown) => {
+                check_eq(shown.server, 5)?;
+                Some((shown.deadline, shown.capacity))
+            }
+        };
+        check_eq(found, offer)
+    }
+
+    #[test]
+    fn offers_at_their_edges() -> Result<(), Fail> {
+        let rest = Phase::Resting;
+        // never recharged: due a period from now, with the whole budget, if that is by the thief's deadline
+        let mut fresh = Row::fresh(
+            5,
+            Terms {
+                kind: Kind::NonIsolated,
+                budget: 2,
+                period: 5,
+            },
+        );
+        offers(fresh, 5, 10, Some((10, 2)))?;
+        offers(fresh, 6, 10, None)?;
+        offers(fresh, 0, 10, Some((5, 2)))?;
+        // isolated rows offer nothing
+        fresh.terms.kind = Kind::Isolated;
+        offers(fresh, 5, 10, None)?;
+        // a deadline still to come, by the thief's, with something left
+        offers(row(rest, 2, 0, 10, 0), 9, 10, Some((10, 2)))?;
+        offers(row(rest, 2, 0, 11, 0), 9, 10, None)?;
+        offers(row(rest, 0, 0, 10, 0), 9, 10, None)?;
+        // a deadline that has just come counts as passed
+        offers(row(rest, 2, 0, 9, 0), 9, 17, Some((17, 3)))?;
+        offers(row(rest, 2, 0, 9, 0), 9, 16, None)?;
+        // only resting rows
+        offers(row(Phase::AtWork, 2, 0, 10, 1), 9, 10, None)?;
+        offers(row(Phase::Supplying, 0, 2, 10, 0), 9, 10, None)
+    }
+
+    #[test]
+    fn a_table_of_a_plan() -> Result<(), Fail> {
+        let shared = Terms {
+            kind: Kind::NonIsolated,
+            budget: 2,
+            period: 5,
+        };
+        let isolated = Terms {
+            kind: Kind::Isolated,
+            budget: 4,
+            period: 10,
+        };
+        let mut plan = Plan::new();
+        check_eq(plan.add(shared), Ok(0))?;
+        check_eq(plan.add(isolated), Ok(1))?;
+        let table = Table::of(&plan);
+        check_eq(table.row(0), Some(Row::fresh(0, shared)))?;
+        check_eq(table.row(1), Some(Row::fresh(1, isolated)))?;
+        check_eq(table.row(2), None)?;
+        check_eq(table.row(65_535), None)?;
+        check_eq(Table::of(&Plan::new()).row(0), None)
     }
 
     #[test]
