@@ -4,11 +4,11 @@ use Rattle.bits.specs.Fields.{bits_before, bit_of, field_at}
 use Rattle.bits.proofs.Fields.{field_more, field_fits, bit_lt}
 use Rattle.bits.proofs.reading.field.Goals as goal
 
-pub overflow-mul-value : goal.overflow-mul-value
-overflow-mul-value c = omega (arith, field_fits c.args.bytes.now (bits_before c.args.at) c.loop-k.k (omega arith))
+pub overflow_mul-value : goal.overflow_mul-value
+overflow_mul-value c = omega (arith, field_fits c.args.bytes.now (bits_before c.args.at) c.loop-k.k (omega arith))
 
-pub overflow-add-value : goal.overflow-add-value
-overflow-add-value c = omega (arith, field_fits c.args.bytes.now (bits_before c.args.at) c.loop-k.k (omega arith))
+pub overflow_add-value : goal.overflow_add-value
+overflow_add-value c = omega (arith, field_fits c.args.bytes.now (bits_before c.args.at) c.loop-k.k (omega arith))
 
 pub loop-k-preserved : goal.loop-k-preserved
 loop-k-preserved c =

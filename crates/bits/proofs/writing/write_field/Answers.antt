@@ -10,12 +10,12 @@ returns c =
     let b = c.args.bytes.now in
     let p = bits_before c.args.at.now in
     let n = c.args.width.bits in
-    let room : has_field b p n ≡ true = sym c.if-not-has-room.ensures in
+    let room : has_field b p n ≡ true = sym c.if-not-has_room.ensures in
     let inside : p + n ≤ 8 * length b = leb-true (p + n) (8 * length b) room in
     record {
       answer = rw room;
-      bytes = rw room c.put-field.ensures;
+      bytes = rw room c.put_field.ensures;
       place = rw room c.after.ensures;
-      reads-back = ap (λ (s : List ℕ). field_at s p n) c.put-field.ensures ∙ put_field_made b p n c.args.value inside;
-      elsewhere = λ q out. ap (λ (s : List ℕ). bit_at s q) c.put-field.ensures ∙ put_field_kept b p n c.args.value q inside out;
+      reads_back = ap (λ (s : List ℕ). field_at s p n) c.put_field.ensures ∙ put_field_made b p n c.args.value inside;
+      elsewhere = λ q out. ap (λ (s : List ℕ). bit_at s q) c.put_field.ensures ∙ put_field_kept b p n c.args.value q inside out;
     }

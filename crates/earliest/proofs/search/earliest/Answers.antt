@@ -20,5 +20,5 @@ returns g c =
     let m = g.C.Contender in
     let xs = c.args.items.now in
     let takes = m.takes c.args.ask in
-    let value = c.position-of.ensures ∙ ap position_of (sym (all_done m.deadline m.number takes xs c.loop-position.best c.loop-position.position (omega arith)) ∙ c.loop-position.invariant) in
+    let value = c.position_of.ensures ∙ ap position_of (sym (all_done m.deadline m.number takes xs c.loop-position.best c.loop-position.position (omega arith)) ∙ c.loop-position.invariant) in
     record { value = value; earliest = subst (IsEarliest m.deadline m.number takes xs) (sym value) (is_earliest m.deadline m.number takes xs) }

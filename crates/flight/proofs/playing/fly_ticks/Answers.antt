@@ -11,17 +11,17 @@ pub loop-init : goal.loop-init
 loop-init g c =
     ([], start_onward g.R.DonorRule.choice g.R.DonorRule.step c.args.count (c.args.count - 0) (state_of c.args.executive.now) (omega arith), λ before heard. subst (g.L.Listener.heard c.args.listener.now) (sym (append-nil before)) heard)
 
-pub returns-in-err-answer : goal.returns-in-err-answer
-returns-in-err-answer g c =
+pub returns-in_err-answer : goal.returns-in_err-answer
+returns-in_err-answer g c =
     let choice = g.R.DonorRule.choice in
     let step = g.R.DonorRule.step in
     let n = c.args.count in
     let state = state_of c.loop.executive in
     let whole = flown_ticks choice step n (state_of c.args.executive.now) in
     let lines = c.loop.invariant.0 in
-    let fault = c.in-err-answer.field-0.0 in
-    let refused = sym c.in-err-answer.was ∙ c.tick.ensures.answer in
-    let x = err_from_is_err_and c.from-residual.result c.from-residual.ensures.1 in
+    let fault = c.in_err-answer.field-0.0 in
+    let refused = sym c.in_err-answer.was ∙ c.tick.ensures.answer in
+    let x = err_from_is_err_and c.from_residual.result c.from_residual.ensures.1 in
     let all = parts whole lines state (Some fault) (tick_ended choice step whole lines (n - c.loop.counter) (n - (c.loop.counter + 1)) state fault (omega arith) refused c.loop.invariant.1) in
     record {
       answer = x.1 ∙ ap Err x.2 ∙ all.answers;
@@ -37,9 +37,9 @@ loop-preserved g c =
     let state = state_of c.loop.executive in
     let whole = flown_ticks choice step n (state_of c.args.executive.now) in
     let lines = c.loop.invariant.0 in
-    let answer = c.in-ok-answer.answer in
+    let answer = c.in_ok-answer.answer in
     let line : List Line = (state.instant, answer) ∷ [] in
-    let granted = sym c.in-ok-answer.was ∙ c.tick.ensures.answer in
+    let granted = sym c.in_ok-answer.was ∙ c.tick.ensures.answer in
     let on = tick_onward choice step whole lines (n - c.loop.counter) (n - (c.loop.counter + 1)) state answer (omega arith) granted c.loop.invariant.1 in (
       lines ++ line,
       subst (λ (after : State g.row.R.Denot). Onward choice step whole (lines ++ line) (n - (c.loop.counter + 1)) after) (sym c.tick.ensures.state) on,

@@ -17,8 +17,8 @@ loop-k-init g c =
     let n = length trace / 2 + length trace % 2 in
     ([], start_trace g.R.DonorRule.choice g.R.DonorRule.step trace n (n - 0) (state_of c.args.executive.now) (omega arith), λ before heard. subst (g.L.Listener.heard c.args.listener.now) (sym (append-nil before)) heard)
 
-pub returns-in-err-located : goal.returns-in-err-located
-returns-in-err-located g c =
+pub returns-in_err-located : goal.returns-in_err-located
+returns-in_err-located g c =
     let choice = g.R.DonorRule.choice in
     let step = g.R.DonorRule.step in
     let trace = c.args.trace.now in
@@ -27,15 +27,15 @@ returns-in-err-located g c =
     let state = state_of c.loop-k.executive in
     let lines = c.loop-k.invariant.0 in
     let here = flown_read choice step (record_read trace (2 * k)) state in
-    let x = err_from_is_err_and c.from-residual.result c.from-residual.ensures.1 in
-    let refused = sym c.in-err-located.was ∙ c.located.ensures ∙ ap (λ (r : Result (Unit {0}) FlightFault). placed_at r (2 * k)) c.fly-at.ensures.answer in
-    let all = record_ended choice step trace (played choice step trace (state_of c.args.executive.now)) lines k (n - k) (n - (k + 1)) state c.in-err-located.field-0.0 (omega arith) refused c.loop-k.invariant.1 in
+    let x = err_from_is_err_and c.from_residual.result c.from_residual.ensures.1 in
+    let refused = sym c.in_err-located.was ∙ c.located.ensures ∙ ap (λ (r : Result (Unit {0}) FlightFault). placed_at r (2 * k)) c.fly_at.ensures.answer in
+    let all = record_ended choice step trace (played choice step trace (state_of c.args.executive.now)) lines k (n - k) (n - (k + 1)) state c.in_err-located.field-0.0 (omega arith) refused c.loop-k.invariant.1 in
     record {
       answer = x.1 ∙ ap Err x.2 ∙ all.answers;
-      state = c.fly-at.ensures.state ∙ all.stands;
+      state = c.fly_at.ensures.state ∙ all.stands;
       heard = λ before heard.
-          subst (λ (more : List Line). g.L.Listener.heard c.fly-at.new.listener (before ++ more)) all.listed
-          (subst (g.L.Listener.heard c.fly-at.new.listener) (append_assoc before lines here.lines) (c.fly-at.ensures.heard (before ++ lines) (c.loop-k.invariant.2 before heard)));
+          subst (λ (more : List Line). g.L.Listener.heard c.fly_at.new.listener (before ++ more)) all.listed
+          (subst (g.L.Listener.heard c.fly_at.new.listener) (append_assoc before lines here.lines) (c.fly_at.ensures.heard (before ++ lines) (c.loop-k.invariant.2 before heard)));
     }
 
 pub loop-k-preserved : goal.loop-k-preserved
@@ -49,11 +49,11 @@ loop-k-preserved g c =
     let lines = c.loop-k.invariant.0 in
     let here = flown_read choice step (record_read trace (2 * k)) state in
     let whole = played choice step trace (state_of c.args.executive.now) in
-    let granted = sym c.in-ok-located.was ∙ c.located.ensures ∙ ap (λ (r : Result (Unit {0}) FlightFault). placed_at r (2 * k)) c.fly-at.ensures.answer in
+    let granted = sym c.in_ok-located.was ∙ c.located.ensures ∙ ap (λ (r : Result (Unit {0}) FlightFault). placed_at r (2 * k)) c.fly_at.ensures.answer in
     let on = record_onward choice step trace whole lines k (n - k) (n - (k + 1)) state (omega arith) granted c.loop-k.invariant.1 in (
       lines ++ here.lines,
-      subst (λ (after : State g.row.R.Denot). whole ≡ behind (lines ++ here.lines) (flown_from choice step trace (k + 1) (n - (k + 1)) after)) (sym c.fly-at.ensures.state) on,
-      λ before heard. subst (g.L.Listener.heard c.fly-at.new.listener) (append_assoc before lines here.lines) (c.fly-at.ensures.heard (before ++ lines) (c.loop-k.invariant.2 before heard)),
+      subst (λ (after : State g.row.R.Denot). whole ≡ behind (lines ++ here.lines) (flown_from choice step trace (k + 1) (n - (k + 1)) after)) (sym c.fly_at.ensures.state) on,
+      λ before heard. subst (g.L.Listener.heard c.fly_at.new.listener) (append_assoc before lines here.lines) (c.fly_at.ensures.heard (before ++ lines) (c.loop-k.invariant.2 before heard)),
     )
 
 pub returns : goal.returns

@@ -7,4 +7,4 @@ use Rattle.plan_text.proofs.columns.spaces.Goals as goal
 
 pub loop-preserved : goal.loop-preserved
 unfolding encode
-loop-preserved c = pushed (32 ∷ []) c.loop.invariant c.in-ok-push.was c.push.ensures.bytes ∙ replicate_more c.loop.counter 32
+loop-preserved c = pushed (32 ∷ []) c.loop.invariant c.in_ok-push.was c.push.ensures.bytes ∙ replicate_more c.loop.counter 32

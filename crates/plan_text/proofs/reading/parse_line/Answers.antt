@@ -8,6 +8,6 @@ use Rattle.plan_text.proofs.reading.parse_line.Goals as goal
 
 pub returns : goal.returns
 returns c =
-    c.terms-of.ensures
-    ∙ sym (line_terms c.cut.result.0.now _ _ _ _ _ _ _ _ c.first-word.ensures c.first-word-2.ensures c.first-word-3.ensures c.first-word-4.ensures)
+    c.terms_of.ensures
+    ∙ sym (line_terms c.cut.result.0.now _ _ _ _ _ _ _ _ c.first_word.ensures c.first_word-2.ensures c.first_word-3.ensures c.first_word-4.ensures)
     ∙ ap (λ bs. terms_of (non_empty (split blank bs))) c.cut.ensures.front

@@ -8,6 +8,6 @@ use Rattle.plan_text.proofs.showing.table_of.Goals as goal
 pub returns : goal.returns
 returns c =
     let a = c.args in
-    IfOk-weaker c.format.result _ (λ s. string_bytes s ≡ table_by a.rows.now a.load a.free a.file-length)
-    (λ s. table_lines a.rows.now a.load a.free a.file-length _ _ (string_bytes s) c.in-ok-lines.ensures c.in-ok-sums.ensures)
+    IfOk-weaker c.format.result _ (λ s. string_bytes s ≡ table_by a.rows.now a.load a.free a.file_length)
+    (λ s. table_lines a.rows.now a.load a.free a.file_length _ _ (string_bytes s) c.in_ok-lines.ensures c.in_ok-sums.ensures)
     c.format.ensures.ok

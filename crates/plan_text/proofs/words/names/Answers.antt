@@ -8,6 +8,6 @@ use Rattle.plan_text.proofs.words.names.Goals as goal
 pub returns : goal.returns
 returns c =
     let word = c.args.word.now in
-    let other = c.as-bytes.result.now in
+    let other = c.as_bytes.result.now in
     same_from_decides _ _ (slice_eq-Decides Decides-eqb word other _ c.eq.ensures) (bytes_eq-Decides word other)
-    ∙ ap (bytes_eq word) (c.as-bytes.ensures.value ∙ c.kind-word.ensures)
+    ∙ ap (bytes_eq word) (c.as_bytes.ensures.value ∙ c.kind_word.ensures)

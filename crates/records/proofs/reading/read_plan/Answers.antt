@@ -11,16 +11,16 @@ use Rattle.records.proofs.reading.read_plan.Goals as goal
 pub returns : goal.returns
 returns c =
     let b = c.args.bytes.now in
-    let n = c.in-ok-count.count in
+    let n = c.in_ok-count.count in
     let fresh = c.new-fresh.result in
-    let got = rows_of c.take-rows.new.plan in
-    let rest = c.in-ok-take-rows.ensures in
-    let count = no_fault c.count-in-file.result 0 n c.in-ok-count.ensures ∙ c.count-in-file.ensures in
+    let got = rows_of c.take_rows.new.plan in
+    let rest = c.in_ok-take_rows.ensures in
+    let count = no_fault c.count_in_file.result 0 n c.in_ok-count.ensures ∙ c.count_in_file.ensures in
     let start : plan_read b ≡ rows_from b 1 n (rows_of fresh) = sym (ap (λ r. onward r 0 (λ m. rows_from b 1 m [])) count) ∙ sym (ap (rows_from b 1 n) c.new-fresh.ensures) in
     let read : plan_read b ≡ Ok got = start ∙ went_well (rows_from b 1 n (rows_of fresh)) [] rest.answer ∙ sym (ap Ok rest.rows) in
     record {
       answer = sym (ap answer_of read);
       rows = sym (ap (λ r. rows_left r (rows_of c.args.plan.now)) read);
       kept = tt;
-      one_file = one_file b (λ i. omega (arith, c.type-inv.bytes i)) got read;
+      one_file = one_file b (λ i. omega (arith, c.type_inv.bytes i)) got read;
     }

@@ -6,8 +6,8 @@ use Rattle.records.specs.Packed.{packed_row, packed_plan, packed_length}
 use Rattle.records.proofs.FilePut.{row_fits, row_more, rows_all}
 use Rattle.records.proofs.writing.put_plan.Goals as goal
 
-pub put-row-requires : goal.put-row-requires
-put-row-requires c =
+pub put_row-requires : goal.put_row-requires
+put_row-requires c =
     let fits = row_fits c.args.plan.now c.rows-rows.result.now c.rows-rows.ensures c.loop-k.k (omega arith) in
     record { room = omega (arith, ap length c.rows-rows.ensures); budget = fits.0; period = fits.1 }
 
@@ -15,12 +15,12 @@ pub loop-k-preserved : goal.loop-k-preserved
 loop-k-preserved c =
     let rows = c.rows-rows.result.now in
     let k = c.loop-k.k in
-    c.put-row.ensures
+    c.put_row.ensures
     ∙ ap (λ (s : List ℕ). take (1 + 4 * k) s ++ (packed_row (get_or rows k blank) ++ drop (1 + 4 * k + 4) s)) c.loop-k.invariant
-    ∙ row_more rows c.put-count.new.buffer (length rows) k (omega arith)
+    ∙ row_more rows c.put_count.new.buffer (length rows) k (omega arith)
 
 pub returns : goal.returns
 returns c =
     let b = c.args.buffer.now in
-    rows_all c.rows-rows.result.now b c.put-count.new.buffer c.loop-k.buffer c.count.result c.loop-k.k c.loop-k.invariant c.put-count.ensures (omega arith)
+    rows_all c.rows-rows.result.now b c.put_count.new.buffer c.loop-k.buffer c.count.result c.loop-k.k c.loop-k.invariant c.put_count.ensures (omega arith)
     ∙ ap (λ (xs : List Terms). packed_plan xs ++ drop (packed_length (length xs)) b) c.rows-rows.ensures

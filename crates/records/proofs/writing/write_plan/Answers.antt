@@ -14,14 +14,14 @@ returns c =
     let b = c.args.buffer.now in
     let rows = rows_of c.args.plan.now in
     let n = packed_length (length rows) in
-    let long : c.packed-length-length.result ≡ n = c.packed-length-length.ensures in
+    let long : c.packed_length-length.result ≡ n = c.packed_length-length.ensures in
     let room : leb n (length b) ≡ true = le-leb n (length b) (omega (arith, long)) in
-    let filled : take c.packed-length-length.result c.put-plan.new.buffer ≡ packed_plan rows =
-    ap (λ (m : ℕ). take m c.put-plan.new.buffer) long
-    ∙ ap (take n) c.put-plan.ensures
+    let filled : take c.packed_length-length.result c.put_plan.new.buffer ≡ packed_plan rows =
+    ap (λ (m : ℕ). take m c.put_plan.new.buffer) long
+    ∙ ap (take n) c.put_plan.ensures
     ∙ take_at (packed_plan rows) (drop n b) n (length_packed rows) in
     record {
       answer = rw (room, long);
-      bytes = rw room c.put-plan.ensures;
-      reads-back = ap plan_read filled ∙ round_trip rows (plan_fits c.args.plan.now);
+      bytes = rw room c.put_plan.ensures;
+      reads_back = ap plan_read filled ∙ round_trip rows (plan_fits c.args.plan.now);
     }

@@ -20,7 +20,7 @@ above_none n ne = grind arith
 pub returns : goal.returns
 returns c =
     let offers = c.args.offers.now in
-    let some = above_none (length offers) (eqb-false (length offers) 0 (sym c.if-is-empty.ensures)) in
+    let some = above_none (length offers) (eqb-false (length offers) 0 (sym c.if-is_empty.ensures)) in
     let last : c.loop-k.best ≡ richest_from start 0 offers = sym (all_done offers c.loop-k.best c.loop-k.k (omega arith)) ∙ c.loop-k.invariant in
     let value : Some c.loop-k.best.position ≡ richest_choice offers = ap (λ (b : Best). Some b.position) last ∙ sym (some_choice offers some) in
     record { value = value; richest = subst (IsRichest offers) (sym value) (is_richest offers) }

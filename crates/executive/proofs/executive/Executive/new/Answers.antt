@@ -10,8 +10,8 @@ use Rattle.executive.specs.Shares.{LawOfShares}
 use Rattle.executive.proofs.Law.{law}
 use Rattle.executive.proofs.executive.Executive.new.Goals as goal
 
-pub invariant-of-result : goal.invariant-of-result
-invariant-of-result g c = (∣ subst (λ (t : ℕ). Sound t (table_rows c.of.result)) (sym c.start.ensures) c.of.ensures.bound ∣₁, tt)
+pub invariant_of-result : goal.invariant_of-result
+invariant_of-result g c = (∣ subst (λ (t : ℕ). Sound t (table_rows c.of.result)) (sym c.start.ensures) c.of.ensures.bound ∣₁, tt)
 
 pub returns : goal.returns
 returns g c =

@@ -21,9 +21,9 @@ returns t c =
     let text = page_text c.args.self.now in
     record {
       text = λ room.
-          c.put-2.ensures.text (omega (arith, c.put-number.ensures.len, long))
-          ∙ ap (λ (front : List ℕ). front ++ ((48 + n % 10) ∷ [])) (c.put-number.ensures.text (omega (arith, long)))
+          c.put-2.ensures.text (omega (arith, c.put_number.ensures.len, long))
+          ∙ ap (λ (front : List ℕ). front ++ ((48 + n % 10) ∷ [])) (c.put_number.ensures.text (omega (arith, long)))
           ∙ append_assoc text (decimal (n / 10)) ((48 + n % 10) ∷ [])
           ∙ ap (λ (ds : List ℕ). text ++ ds) (sym digits);
-      len = omega (arith, c.put-2.ensures.len, c.put-number.ensures.len, long);
+      len = omega (arith, c.put-2.ensures.len, c.put_number.ensures.len, long);
     }

@@ -8,8 +8,8 @@ pub returns : goal.returns
 returns c =
     record {
       text = λ room.
-          grown (page_text c.args.self.now) (page_text c.put.new.self) (page_text c.put-unless-nobody.new.self) (32 ∷ []) (unless_nobody c.args.server c.args.n)
+          grown (page_text c.args.self.now) (page_text c.put.new.self) (page_text c.put_unless_nobody.new.self) (32 ∷ []) (unless_nobody c.args.server c.args.n)
           (c.put.ensures.text (omega arith))
-          (c.put-unless-nobody.ensures.text (omega (arith, c.put.ensures.len)));
-      len = omega (arith, c.put.ensures.len, c.put-unless-nobody.ensures.len);
+          (c.put_unless_nobody.ensures.text (omega (arith, c.put.ensures.len)));
+      len = omega (arith, c.put.ensures.len, c.put_unless_nobody.ensures.len);
     }

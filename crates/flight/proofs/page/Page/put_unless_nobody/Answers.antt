@@ -11,6 +11,6 @@ returns-else-server-eq-NOBODY c =
     let long : length (decimal n) ≤ 10 = length-decimal-le 10 n (omega arith) (omega arith) (omega arith) in
     let somebody : eqb c.args.server nobody ≡ false = ne_eqb c.args.server nobody c.if-server-eq-NOBODY.false in
     record {
-      text = λ room. rw somebody (c.put-number.ensures.text (omega (arith, long)));
-      len = omega (arith, c.put-number.ensures.len, long);
+      text = λ room. rw somebody (c.put_number.ensures.text (omega (arith, long)));
+      len = omega (arith, c.put_number.ensures.len, long);
     }

@@ -2,8 +2,8 @@ use Rattle.std.proofs.Common.{ℕ, List, ◌++◌, sym, ap, ◌∙◌, append-ni
 use Rattle.flight.specs.Page.{page_text}
 use Rattle.flight.proofs.printing.Listing.make_room.Goals as goal
 
-pub returns-then-not-has-room : goal.returns-then-not-has-room
-returns-then-not-has-room g c =
+pub returns-then-not-has_room : goal.returns-then-not-has_room
+returns-then-not-has_room g c =
     let text = page_text c.args.self.now.page in
     record {
       room = omega (arith, c.flush.ensures.len);

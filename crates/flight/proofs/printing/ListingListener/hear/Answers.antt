@@ -18,5 +18,5 @@ ends_on all old new after line (front, one) (middle, two) three =
 pub returns : goal.returns
 returns g c lines heard =
     let line : Line = (c.args.instant, c.args.answer) in
-    let ends = ends_on (lines_text lines) (page_text c.args.self.now.page) (page_text c.make-room.new.self.page) (page_text c.put-line.new.self) (line_text line) heard c.make-room.ensures.text (c.put-line.ensures.text c.make-room.ensures.room) in
+    let ends = ends_on (lines_text lines) (page_text c.args.self.now.page) (page_text c.make_room.new.self.page) (page_text c.put_line.new.self) (line_text line) heard c.make_room.ensures.text (c.put_line.ensures.text c.make_room.ensures.room) in
     (ends.0, lines_push lines line ∙ ends.1)

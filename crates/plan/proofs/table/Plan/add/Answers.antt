@@ -6,8 +6,8 @@ use Rattle.plan.specs.Plan.{rows_of, refusal, load_of, answer_for, rows_for}
 use Rattle.plan.proofs.Adding.{sound_terms, sound_more, load_more, no_refusal}
 use Rattle.plan.proofs.table.Plan.add.Goals as goal
 
-pub invariant-of-self : goal.invariant-of-self
-invariant-of-self c =
+pub invariant_of-self : goal.invariant_of-self
+invariant_of-self c =
     let p = c.args.self.now in
     let w : p.count < length p.rows = omega (arith, p.whole) in (
       length-set p.rows p.count c.args.terms ∙ p.whole,
@@ -18,7 +18,7 @@ invariant-of-self c =
           (
             omega arith,
             (
-              sound_more p.rows p.count c.args.terms w p.sound (sound_terms c.args.terms (sym c.if-period-is-bad.ensures) (sym c.if-budget-is-bad.ensures)),
+              sound_more p.rows p.count c.args.terms w p.sound (sound_terms c.args.terms (sym c.if-period_is_bad.ensures) (sym c.if-budget_is_bad.ensures)),
               tt,
             ),
           ),
@@ -32,5 +32,5 @@ returns c =
     let t = c.args.terms in
     let w : p.count < length p.rows = omega (arith, p.whole) in
     let n : length (rows_of p) ≡ p.count = length-take-le p.count p.rows (omega arith) in
-    let none : refusal (rows_of p) t ≡ None = no_refusal (rows_of p) t (omega arith) (sym c.if-period-is-bad.ensures) (sym c.if-budget-is-bad.ensures) (omega (arith, p.loads, c.weight.ensures)) in
+    let none : refusal (rows_of p) t ≡ None = no_refusal (rows_of p) t (omega arith) (sym c.if-period_is_bad.ensures) (sym c.if-budget_is_bad.ensures) (omega (arith, p.loads, c.weight.ensures)) in
     record { answer = rw (none, n); rows = take_more_set p.rows p.count t w ∙ sym (ap (λ o. rows_for o (rows_of p) t) none) }

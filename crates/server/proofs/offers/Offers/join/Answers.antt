@@ -5,8 +5,8 @@ use Rattle.server.specs.Turn.{join_offer}
 use Rattle.server.specs.Gathered.{gathered}
 use Rattle.server.proofs.offers.Offers.join.Goals as goal
 
-pub returns-then-self-lt-MOST-ROWS : goal.returns-then-self-lt-MOST-ROWS
-returns-then-self-lt-MOST-ROWS c =
+pub returns-then-self-lt-MOST_ROWS : goal.returns-then-self-lt-MOST_ROWS
+returns-then-self-lt-MOST_ROWS c =
     let offers = c.args.self.now in
     record {
       more = λ room.

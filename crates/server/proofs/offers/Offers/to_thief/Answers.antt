@@ -17,8 +17,8 @@ loop-row-preserved c =
     let D = c.args.deadline in (
       omega (arith, c.join.ensures.count, c.loop-row.invariant.0),
       c.join.ensures.more (omega (arith, c.loop-row.invariant.0, c.requires))
-          ∙ ap (λ (offers : List Offer). offers ++ join_offer c.offer-of.result []) c.loop-row.invariant.1
-          ∙ ap (λ (o : Option Offer). offers_to t D (take i rows) ++ join_offer o []) c.offer-of.ensures
+          ∙ ap (λ (offers : List Offer). offers ++ join_offer c.offer_of.result []) c.loop-row.invariant.1
+          ∙ ap (λ (o : Option Offer). offers_to t D (take i rows) ++ join_offer o []) c.offer_of.ensures
           ∙ sym (offers_more t D rows i _ (omega arith)),
     )
 

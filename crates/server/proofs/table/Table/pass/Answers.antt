@@ -8,14 +8,14 @@ use Rattle.server.proofs.Places.{front_length, front_rows}
 use Rattle.server.proofs.Keeping.{passed_keeps}
 use Rattle.server.proofs.table.Table.pass.Goals as goal
 
-pub invariant-of-self : goal.invariant-of-self
-invariant-of-self c =
+pub invariant_of-self : goal.invariant_of-self
+invariant_of-self c =
     let table = c.args.self.now in
-    (front_length (passed c.args.at.ticks) table.rows c.pass-all.new.rows table.count (table.count - 0) (omega arith) (omega (arith, table.whole, table.room)) c.pass-all.ensures ∙ table.whole, (table.room, tt))
+    (front_length (passed c.args.at.ticks) table.rows c.pass_all.new.rows table.count (table.count - 0) (omega arith) (omega (arith, table.whole, table.room)) c.pass_all.ensures ∙ table.whole, (table.room, tt))
 
 pub returns : goal.returns
 returns c =
     let table = c.args.self.now in
     let t = c.args.at.ticks in
-    let is = front_rows (passed t) table.rows c.pass-all.new.rows table.count (table.count - 0) (omega arith) (omega (arith, table.whole, table.room)) c.pass-all.ensures in
+    let is = front_rows (passed t) table.rows c.pass_all.new.rows table.count (table.count - 0) (omega arith) (omega (arith, table.whole, table.room)) c.pass_all.ensures in
     record { rows = is; kept = passed_keeps t (table_rows table) _ is }

@@ -14,11 +14,11 @@ loop-k-preserved g c =
     let made = candidate (g.R.DonorRule.choice c.args.rule.now c.args.at.ticks) c.args.at.ticks rows in
     let candidates = c.loop-k.candidates in
     let k = c.loop-k.k in
-    let new = c.candidate-of.result in (
+    let new = c.candidate_of.result in (
       length-set candidates k new ∙ c.loop-k.invariant.0,
       take_more_set candidates k new (omega (arith, c.loop-k.invariant.0, c.requires))
           ∙ ap (λ (s : List Candidate). s ++ (new ∷ [])) c.loop-k.invariant.1
-          ∙ ap (λ (x : Candidate). map made (take k rows) ++ (x ∷ [])) c.candidate-of.ensures
+          ∙ ap (λ (x : Candidate). map made (take k rows) ++ (x ∷ [])) c.candidate_of.ensures
           ∙ sym (map_more made rows k _ (omega arith)),
     )
 
