@@ -15,8 +15,8 @@ struct Best {
 /// The position of the earliest record that takes part: the one with the smallest deadline, then the
 /// smallest number. Nobody, where none takes part.
 pub fn earliest<C: Contender>(items: &[C], ask: C::Ask) -> Option<usize>
-    ensures value { result ≡ earliest_of deadline number (takes ask) items.now }
-    ensures earliest { IsEarliest deadline number (takes ask) items.now result }
+    ensures value { result ≡ earliest_of C.deadline C.number (C.takes ask) items.now }
+    ensures earliest { IsEarliest C.deadline C.number (C.takes ask) items.now result }
 {
     let mut best: Option<Best> = None;
     for (position, item) in items.iter().enumerate() {
@@ -27,7 +27,7 @@ pub fn earliest<C: Contender>(items: &[C], ask: C::Ask) -> Option<usize>
 
 // The earliest so far, after one more record.
 fn held<C: Contender>(best: Option<Best>, position: usize, item: &C, ask: C::Ask) -> Option<Best>
-    ensures { result ≡ after deadline number (takes ask) best position item.now }
+    ensures { result ≡ after C.deadline C.number (C.takes ask) best position item.now }
 {
     if !item.takes_part(ask) {
         return best;

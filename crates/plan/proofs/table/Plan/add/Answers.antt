@@ -9,22 +9,14 @@ use Rattle.plan.proofs.table.Plan.add.Goals as goal
 pub invariant_of-self : goal.invariant_of-self
 invariant_of-self c =
     let p = c.args.self.now in
-    let w : p.count < length p.rows = omega (arith, p.whole) in (
-      length-set p.rows p.count c.args.terms ∙ p.whole,
-      (
-        omega arith,
-        (
-          ap (λ (n : ℕ). n + c.weight.result) p.loads ∙ ap (λ (n : ℕ). load_of (rows_of p) + n) c.weight.ensures ∙ sym (load_more p.rows p.count c.args.terms w),
-          (
-            omega arith,
-            (
-              sound_more p.rows p.count c.args.terms w p.sound (sound_terms c.args.terms (sym c.if-period_is_bad.ensures) (sym c.if-budget_is_bad.ensures)),
-              tt,
-            ),
-          ),
-        ),
-      ),
-    )
+    let w : p.count < length p.rows = omega (arith, p.whole) in
+    record {
+      whole = length-set p.rows p.count c.args.terms ∙ p.whole;
+      room = omega arith;
+      loads = ap (λ (n : ℕ). n + c.weight.result) p.loads ∙ ap (λ (n : ℕ). load_of (rows_of p) + n) c.weight.ensures ∙ sym (load_more p.rows p.count c.args.terms w);
+      light = omega arith;
+      sound = sound_more p.rows p.count c.args.terms w p.sound (sound_terms c.args.terms (sym c.if-period_is_bad.ensures) (sym c.if-budget_is_bad.ensures));
+    }
 
 pub returns : goal.returns
 returns c =
