@@ -11,7 +11,10 @@ use Rattle.server.proofs.table.Table.pass.Goals as goal
 pub invariant_of-self : goal.invariant_of-self
 invariant_of-self c =
     let table = c.args.self.now in
-    (front_length (passed c.args.at.ticks) table.rows c.pass_all.new.rows table.count (table.count - 0) (omega arith) (omega (arith, table.whole, table.room)) c.pass_all.ensures ∙ table.whole, (table.room, tt))
+    record {
+      whole = front_length (passed c.args.at.ticks) table.rows c.pass_all.new.rows table.count (table.count - 0) (omega arith) (omega (arith, table.whole, table.room)) c.pass_all.ensures ∙ table.whole;
+      room = table.room;
+    }
 
 pub returns : goal.returns
 returns c =
