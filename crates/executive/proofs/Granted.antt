@@ -94,7 +94,7 @@ left_one Own runs t row kept can = left_own t row kept can.1 can.2
 left_one Residual runs t row kept can = left_residual t row kept can
 left_one Stolen runs t row kept can = left_stolen t row kept can
 left_one Idle runs t row kept can = left_residual t row kept can
-left_one Empty runs t row kept can = absurd can
+left_one Empty runs t _ kept can = absurd can
 
 module _ (t : ℕ) (rows : List Row) (runner : Option ℕ) where
   charged_at : (payment : Payment) → FairPay t rows runner payment → get_or (paid t (Some payment) rows) payment.payer blank_row ≡ charged_for payment.source t (get_or rows payment.payer blank_row)
@@ -116,7 +116,7 @@ abbrev due_for : Bool → Bool → ℕ → Row → ℕ
 due_for theft here t row = cond (theft && (here && leb row.account.deadline t)) (t + row.terms.period) row.account.deadline
 
 due_one : (source : Source) (t : ℕ) (row : Row) → (charged_for source t row).account.deadline ≡ due_for (is_stolen source) true t row
-due_one Own t row = refl
+due_one Own t _ = refl
 due_one Residual t row = refl
 due_one Stolen t row = by_lateness (leb row.account.deadline t)
   where
@@ -124,7 +124,7 @@ due_one Stolen t row = by_lateness (leb row.account.deadline t)
     by_lateness true = refl
     by_lateness false = refl
 due_one Idle t row = refl
-due_one Empty t row = refl
+due_one Empty t _ = refl
 
 due_at : (t : ℕ) (rows : List Row) (runner : Option ℕ) (payment : Payment) → FairPay t rows runner payment → (k : ℕ) → eqb payment.payer k ≡ true
     → payer_deadline (Some payment) (paid t (Some payment) rows) ≡ due_for (is_stolen payment.source) (eqb payment.payer k) t (get_or rows k blank_row)

@@ -129,7 +129,7 @@ paid_same t None rows = refl
 paid_same t (Some payment) rows = changed_same (charged_for payment.source t) payment.payer rows (charged_terms payment.source t)
 
 finished_same : (finished : Bool) (t : ℕ) (runner : Option ℕ) (rows : List Row) → terms_of (finished_by finished t runner rows) ≡ terms_of rows
-finished_same false t runner rows = refl
+finished_same false t _ rows = refl
 finished_same true t None rows = refl
 finished_same true t (Some k) rows = changed_same (happens Finish t) k rows (happens_terms Finish t)
 

@@ -328,11 +328,11 @@ hears t =
 
 -- whoever pays in a tick has what its source asks for
 can_pay_at : (t k : ℕ) (rows : List Row) (runner : Option ℕ) (payment : Option Payment) → Fair t rows runner payment → CanPayIf (source_at payment k) (is_runner runner k) t (get_or rows k blank_row)
-can_pay_at t k rows runner None fair = tt
-can_pay_at t k rows runner (Some payment) fair = by_place (eqb payment.payer k) refl
+can_pay_at t k rows runner None _ = tt
+can_pay_at t k rows runner (Some payment) pays = by_place (eqb payment.payer k) refl
   where
     by_place : (here : Bool) → eqb payment.payer k ≡ here → CanPayIf (cond here (Some payment.source) None) (is_runner runner k) t (get_or rows k blank_row)
-    by_place true e = subst (λ (n : ℕ). CanPay payment.source (is_runner runner n) t (get_or rows n blank_row)) (eqb-true payment.payer k e) fair.able
+    by_place true e = subst (λ (n : ℕ). CanPay payment.source (is_runner runner n) t (get_or rows n blank_row)) (eqb-true payment.payer k e) pays.able
     by_place false e = tt
 
 module _ (choice : Choice) (t : ℕ) (finished : Bool) (rows : List Row) (inside : Inside choice) (sound : Sound t rows) (k : ℕ) (here : k < length rows) where

@@ -11,7 +11,7 @@ use Rattle.executive.proofs.Law.{law}
 use Rattle.executive.proofs.executive.Executive.new.Goals as goal
 
 pub invariant_of-result : goal.invariant_of-result
-invariant_of-result g c = (∣ subst (λ (t : ℕ). Sound t (table_rows c.of.result)) (sym c.start.ensures) c.of.ensures.bound ∣₁, tt)
+invariant_of-result g c = record { sound = ∣ subst (λ (t : ℕ). Sound t (table_rows c.of.result)) (sym c.start.ensures) c.of.ensures.bound ∣₁ }
 
 pub returns : goal.returns
 returns g c =

@@ -14,10 +14,10 @@ invariant_of-self-2 g c =
     let choice = g.R.DonorRule.choice before.rule t in
     let after = c.carry_out.new in
     let u = c.in-Some.next.ticks in
-    let at : after.instant.ticks ≡ u = ap (λ (i : Instant). i.ticks) c.carry_out.ensures.instant in (
-      ∥∥₁_map before.sound
+    let at : after.instant.ticks ≡ u = ap (λ (i : Instant). i.ticks) c.carry_out.ensures.instant in
+    record {
+      sound = ∥∥₁_map before.sound
           (λ sound.
           subst (λ (n : ℕ). Sound n (table_rows after.table)) (sym at)
-          (tick_sound choice t c.args.finished (table_rows before.table) (g.met.R.DonorRule.inside before.rule t) sound c.turn-runner.result.0 c.turn-runner.result.1 c.turn-runner.ensures.runner c.turn-runner.ensures.payment u (table_rows after.table) c.in-Some.ensures.0 c.carry_out.ensures.rows)),
-      tt,
-    )
+          (tick_sound choice t c.args.finished (table_rows before.table) (g.met.R.DonorRule.inside before.rule t) sound c.turn-runner.result.0 c.turn-runner.result.1 c.turn-runner.ensures.runner c.turn-runner.ensures.payment u (table_rows after.table) c.in-Some.ensures.0 c.carry_out.ensures.rows));
+    }
