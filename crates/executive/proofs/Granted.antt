@@ -117,13 +117,13 @@ due_for theft here t row = cond (theft && (here && leb row.account.deadline t)) 
 
 due_one : (source : Source) (t : ℕ) (row : Row) → (charged_for source t row).account.deadline ≡ due_for (is_stolen source) true t row
 due_one Own t _ = refl
-due_one Residual t row = refl
+due_one Residual t _ = refl
 due_one Stolen t row = by_lateness (leb row.account.deadline t)
   where
     by_lateness : (late : Bool) → (cond late (recharged t row) row).account.deadline ≡ cond late (t + row.terms.period) row.account.deadline
     by_lateness true = refl
     by_lateness false = refl
-due_one Idle t row = refl
+due_one Idle t _ = refl
 due_one Empty t _ = refl
 
 due_at : (t : ℕ) (rows : List Row) (runner : Option ℕ) (payment : Payment) → FairPay t rows runner payment → (k : ℕ) → eqb payment.payer k ≡ true

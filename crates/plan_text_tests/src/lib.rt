@@ -21,27 +21,25 @@ mod tests {
     };
 
     // The text stands for the first row and the second.
-    fn reads_both(rt: &impl Abort, text: &[u8]) -> Result<(), Fail> {
+    fn reads_both(rt: &impl Abort, text: &str) {
         let mut plan = Plan::new();
-        assert_eq!(rt; parse_plan(text, &mut plan), Ok(()));
-        assert_eq!(rt; plan.count(), 2);
-        assert_eq!(rt; plan.row(0), Some(FIRST));
-        assert_eq!(rt; plan.row(1), Some(SECOND));
-        Ok(())
+        assert_eq!(rt; parse_plan(text.as_bytes(), &mut plan), Ok(()), "{text}");
+        assert_eq!(rt; plan.count(), 2, "{text}");
+        assert_eq!(rt; plan.row(0), Some(FIRST), "{text}");
+        assert_eq!(rt; plan.row(1), Some(SECOND), "{text}");
     }
 
     // The text has this fault, and a plan that is to take it keeps its only row.
-    fn fails(rt: &impl Abort, text: &[u8], line: usize, fault: LineFault) -> Result<(), Fail> {
+    fn fails(rt: &impl Abort, text: &[u8], note: &str, line: usize, fault: LineFault) {
         let mut plan = Plan::new();
-        assert_eq!(rt; plan.add(SECOND), Ok(0));
-        assert_eq!(rt; parse_plan(text, &mut plan), Err(TextFault { line, fault }));
-        assert_eq!(rt; plan.count(), 1);
-        assert_eq!(rt; plan.row(0), Some(SECOND));
-        Ok(())
+        assert_eq!(rt; plan.add(SECOND), Ok(0), "{note}");
+        assert_eq!(rt; parse_plan(text, &mut plan), Err(TextFault { line, fault }), "{note}");
+        assert_eq!(rt; plan.count(), 1, "{note}");
+        assert_eq!(rt; plan.row(0), Some(SECOND), "{note}");
     }
 
     #[test]
-    fn reads_rows(rt: HostRuntime) -> Result<(), Fail> {
+    fn reads_rows(rt: HostRuntime) {
         let texts = [
             "shared 2 5\nisolated 4 10\n",
             "shared 2 5\nisolated 4 10",
@@ -51,9 +49,8 @@ mod tests {
             "shared 0002 05\nisolated 000000000000000000000000004 10\n",
         ];
         for text in texts {
-            reads_both(&rt, text.as_bytes()).note(text)?;
+            reads_both(&rt, text);
         }
-        Ok(())
     }
 
     #[test]
@@ -68,7 +65,7 @@ mod tests {
     }
 
     #[test]
-    fn tells_what_is_not_understood(rt: HostRuntime) -> Result<(), Fail> {
+    fn tells_what_is_not_understood(rt: HostRuntime) {
         let cases = [
             ("shared", 1, LineFault::Words),
             ("\nshared 2\n", 2, LineFault::Words),
@@ -84,13 +81,13 @@ mod tests {
             ("shared : 5", 1, LineFault::Number),
         ];
         for (text, line, fault) in cases {
-            fails(&rt, text.as_bytes(), line, fault).note(text)?;
+            fails(&rt, text.as_bytes(), text, line, fault);
         }
-        fails(&rt, b"shared 2 \xff", 1, LineFault::Number).note("no text at all")
+        fails(&rt, b"shared 2 \xff", "no text at all", 1, LineFault::Number);
     }
 
     #[test]
-    fn tells_what_is_refused(rt: HostRuntime) -> Result<(), Fail> {
+    fn tells_what_is_refused(rt: HostRuntime) {
         // 16 bits would wrap 65541 to 5 and 65538 to 2.
         let cases = [
             ("shared 1 7", 1, PlanFault::Period),
@@ -108,9 +105,8 @@ mod tests {
             ),
         ];
         for (text, line, refusal) in cases {
-            fails(&rt, text.as_bytes(), line, LineFault::Refused(refusal)).note(text)?;
+            fails(&rt, text.as_bytes(), text, line, LineFault::Refused(refusal));
         }
-        Ok(())
     }
 
     #[test]
@@ -122,9 +118,11 @@ mod tests {
         fails(
             &rt,
             text.as_bytes(),
+            "33 servers",
             33,
             LineFault::Refused(PlanFault::Full),
-        )
+        );
+        Ok(())
     }
 
     #[test]
