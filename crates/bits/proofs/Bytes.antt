@@ -1,5 +1,5 @@
 -- A byte with one bit made another: that bit is the new one, and every other bit is as it was.
-use Rattle.std.proofs.Common.{◌≡◌, ℕ, suc, ◌+◌, ◌-◌, ◌*◌, ◌/◌, ◌%◌, ◌^◌, ◌<◌, ◌≤◌, ◌≢◌, ◌⊎◌, sym, ap, ◌∙◌, ⊎_elim, add_assoc, mul_assoc, mul_comm, add-mul, pow-suc, arith}
+use Rattle.std.proofs.Common.{◌≡◌, ℕ, suc, ◌+◌, ◌-◌, ◌*◌, ◌/◌, ◌%◌, ◌^◌, ◌<◌, ◌≢◌, ◌⊎◌, sym, ap, ◌∙◌, ⊎_elim, add_assoc, mul_assoc, mul_comm, add-mul, pow-suc, arith}
 use Rattle.std.proofs.lemmas.Nat.{pow_pos, pow-add, div_below, shr-shr, field_of, mod_below, mul-le, div-add-mod', div-mul-add, mod-mul-add}
 use Rattle.bits.specs.Fields.{bit_of, byte_with}
 

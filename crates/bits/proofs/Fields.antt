@@ -1,5 +1,5 @@
 -- A field's value is made of its bits, the first the most significant, so it splits like a number in base two.
-use Rattle.std.proofs.Common.{◌≡◌, ℕ, zero, suc, ◌+◌, ◌-◌, ◌*◌, ◌/◌, ◌%◌, ◌^◌, ◌<◌, ◌≤◌, List, get_or, sym, ap, add-zero, add_assoc, add-suc, mul_assoc, pow-suc, add-one, arith, pow_mono}
+use Rattle.std.proofs.Common.{◌≡◌, ℕ, zero, suc, ◌+◌, ◌-◌, ◌*◌, ◌/◌, ◌%◌, ◌^◌, ◌<◌, List, get_or, sym, ap, add-zero, add_assoc, add-suc, mul_assoc, pow-suc, add-one, arith, pow_mono}
 use Rattle.std.proofs.lemmas.Nat.{mod_below}
 use Rattle.bits.specs.Fields.{bit_of, bit_at, field_at}
 

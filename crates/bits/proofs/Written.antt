@@ -3,7 +3,7 @@ use Rattle.std.proofs.Common.{◌≡◌, ℕ, zero, suc, ◌+◌, ◌-◌, ◌*�
 use Rattle.std.proofs.lemmas.List.{get_or-set_same, get_or-set_other}
 use Rattle.std.proofs.lemmas.Nat.{mod-pow-add, shr-shr}
 use Rattle.bits.specs.Fields.{bit_of, bit_at, field_at, byte_with, put_bit, put_field}
-use Rattle.bits.proofs.Bytes.{bit_made, bit_kept, byte_lt}
+use Rattle.bits.proofs.Bytes.{bit_made, bit_kept}
 
 pub length_put_field : (b : List ℕ) (p n v : ℕ) → length (put_field b p n v) ≡ length b
 length_put_field b p zero v = refl

@@ -1,4 +1,6 @@
 //! Packed fields: n bits, most significant first, from any bit of a byte.
+#![tactic(auto)]
+
 pub mod fault;
 pub mod place;
 pub mod reading;

@@ -1,4 +1,6 @@
 //! Fields of 1 to 16 bits at each of the eight bits of a byte, held to a table of bits.
+#![tactic(auto)]
+
 #[cfg(test)]
 mod tests {
     use bits::{BitsFault, Place, Width, read_field, write_field};

@@ -1,5 +1,7 @@
 //! Donor rules: who pays when an overloaded server steals. The interface that every rule keeps to, and
 //! four rules behind it.
+#![tactic(auto)]
+
 pub mod allowance;
 pub mod earliest_first;
 pub mod nobody;

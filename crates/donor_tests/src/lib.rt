@@ -1,4 +1,6 @@
 //! Donor rules on examples: who is picked, step after step, and at the edges of the allowance.
+#![tactic(auto)]
+
 #[cfg(test)]
 mod tests {
     use donor::{Allowance, DonorRule, EarliestFirst, Nobody, Offer, Tally, Turns};

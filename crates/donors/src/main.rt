@@ -1,4 +1,6 @@
 // Donor rules side by side: the same offers shown to each rule over several ticks, and who pays.
+#![tactic(auto)]
+
 use donor::{Allowance, DonorRule, EarliestFirst, Nobody, Offer, Turns};
 use richest::Richest;
 use std::io;

@@ -1,5 +1,7 @@
 // Durashem: flies a trace on the executive of a plan, and lists every tick. What is read, flown and listed is proved in
 // the libraries; here bytes only go from files to them, and lines to the standard output.
+#![tactic(auto)]
+
 use anyhow::anyhow;
 use donor::{Allowance, DonorRule, EarliestFirst, Nobody, Turns};
 use executive::Executive;

@@ -1,4 +1,6 @@
 //! The one text that finds the earliest of any records: the smallest deadline, then the smallest number.
+#![tactic(auto)]
+
 pub mod contender;
 pub mod search;
 

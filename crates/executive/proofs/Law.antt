@@ -6,11 +6,11 @@ use Rattle.plan.specs.declared.terms.Terms.{Terms}
 use Rattle.plan.specs.Terms.{blank, common_multiple, weight_of}
 use Rattle.server.specs.declared.row.Row.{Row}
 use Rattle.server.specs.Tick.{fresh_rows}
-use Rattle.server.specs.Demand.{Fit, Sound, Inside}
+use Rattle.server.specs.Demand.{Fit, Inside}
 use Rattle.server.proofs.Fresh.{fresh_keeps}
 use Rattle.executive.specs.Calls.{State, fresh_state}
 use Rattle.executive.specs.Run.{Call, Entry, RuleChoice, RuleStep, entry_of, after_call, run_from}
-use Rattle.executive.specs.Shares.{OnePayer, Isolation, Accounts, Shares, LawOfShares}
+use Rattle.executive.specs.Shares.{OnePayer, Isolation, Accounts, LawOfShares}
 use Rattle.executive.proofs.Runs.{full, spaced, charged}
 use Rattle.executive.proofs.Entries.{Good, keeps, moves, one_pays, isolated_supplies, accounts_kept}
 

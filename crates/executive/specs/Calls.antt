@@ -1,5 +1,5 @@
 -- What the calls arrive, who and tick answer, and how they leave the executive, for any donor choice.
-use Rattle.std.specs.Prelude.{ℕ, suc, Bool, true, false, cond, not, ◌&&◌, List, length, get_or, is_some, Some, None, Ok, Err, Option, Result, nat_le, slice_index_or}
+use Rattle.std.specs.Prelude.{ℕ, suc, Bool, cond, not, ◌&&◌, List, length, get_or, is_some, Some, None, Ok, Err, Option, Result, nat_le, slice_index_or}
 use Rattle.plan.specs.declared.terms.Terms.{Terms}
 use Rattle.donor.specs.declared.offer.Offer.{Offer}
 use Rattle.server.specs.declared.row.Row.{Row}

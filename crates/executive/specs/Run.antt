@@ -2,7 +2,6 @@
 -- in which the law of shares speaks of a run.
 use Rattle.std.specs.Prelude.{◌≡◌, ℕ, suc, ◌+◌, ◌<◌, ◌≤◌, Bool, true, false, cond, ◌&&◌, ◌⊎◌, List, [], ◌∷◌, is_some, Some, None, Ok, Err, count_by, Option, Result, ◌≢◌, nat_eq, nat_le, nat_lt, slice_index_or}
 use Rattle.std.specs.List.{ContainsAt as Has}
-use Rattle.donor.specs.declared.offer.Offer.{Offer}
 use Rattle.server.specs.declared.row.Phase.TheVariants.{Resting, AtWork}
 use Rattle.server.specs.declared.row.Row.{Row}
 use Rattle.server.specs.declared.turn.Source.{Source}

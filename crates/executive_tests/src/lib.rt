@@ -1,5 +1,7 @@
 //! Executives at work: worked runs, refusals, and rules side by side. The expected numbers are worked out by hand from the
 //! rules.
+#![tactic(auto)]
+
 #[cfg(test)]
 mod tests {
     use donor::{Allowance, DonorRule, EarliestFirst, Turns};

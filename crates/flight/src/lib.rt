@@ -1,4 +1,6 @@
 //! Flights: playing a trace on an executive, and the listing of its ticks.
+#![tactic(auto)]
+
 pub mod counting;
 pub mod fault;
 pub mod listener;

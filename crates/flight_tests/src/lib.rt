@@ -1,5 +1,7 @@
 //! Traces, flights and lines: records at their edges, where a fault ends a flight and what then stands, and the bytes of
 //! lines.
+#![tactic(auto)]
+
 #[cfg(test)]
 mod tests {
     use bits::BitsFault;

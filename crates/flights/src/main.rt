@@ -1,4 +1,6 @@
 // Flies the packed flights of the model, and prints for each its checksum: the model's own output must be the same.
+#![tactic(auto)]
+
 ghost use Rattle.std.specs.Prelude.{◌≡◌, min, length};
 
 use anyhow::anyhow;

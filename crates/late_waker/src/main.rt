@@ -1,5 +1,7 @@
 // The late waker, tick by tick: a server that was robbed in part wakes just before its deadline, and the shutter's server
 // gets its whole budget all the same. After each tick the accounts of all rows are shown.
+#![tactic(auto)]
+
 use donor::EarliestFirst;
 use executive::{CallFault, Executive, NOBODY};
 use plan::{Kind, Plan, PlanFault, Terms};

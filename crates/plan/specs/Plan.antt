@@ -1,5 +1,5 @@
 -- A plan is the list of its rows, and `add` is the one way to a longer one.
-use Rattle.std.specs.Prelude.{ℕ, ◌+◌, Bool, true, false, cond, List, [], ◌∷◌, ◌++◌, length, take, Some, None, Ok, Err, sum_by, Option, Result, nat_le, nat_lt, slice_index_or}
+use Rattle.std.specs.Prelude.{ℕ, ◌+◌, cond, List, [], ◌∷◌, ◌++◌, length, take, Some, None, Ok, Err, sum_by, Option, Result, nat_le, nat_lt, slice_index_or}
 use Rattle.plan.specs.declared.table.Plan.{Plan}
 use Rattle.plan.specs.declared.terms.Terms.{Terms}
 use Rattle.plan.specs.declared.fault.PlanFault.{PlanFault}

@@ -1,4 +1,6 @@
 //! Plans: which servers share the processor, and on what terms. No plan exists that breaks its limits.
+#![tactic(auto)]
+
 pub mod fault;
 pub mod table;
 pub mod terms;

@@ -1,4 +1,6 @@
 //! Plans at the edges of their limits: what `add` takes, what it refuses, and in which order.
+#![tactic(auto)]
+
 #[cfg(test)]
 mod tests {
     use plan::{Kind, Plan, PlanFault, Terms};

@@ -1,4 +1,6 @@
 //! A plan as text: reading one that a person wrote, and showing one as a table.
+#![tactic(auto)]
+
 mod columns;
 pub mod fault;
 mod reading;

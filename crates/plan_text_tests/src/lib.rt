@@ -1,4 +1,5 @@
 //! Tests of plans as text: what is read, what is not understood or refused, and what is shown.
+#![tactic(auto)]
 
 #[cfg(test)]
 mod tests {
@@ -33,7 +34,11 @@ mod tests {
     fn fails(rt: &impl Abort, text: &[u8], note: &str, line: usize, fault: LineFault) {
         let mut plan = Plan::new();
         assert_eq!(rt; plan.add(SECOND), Ok(0), "{note}");
-        assert_eq!(rt; parse_plan(text, &mut plan), Err(TextFault { line, fault }), "{note}");
+        assert_eq!(rt;
+            parse_plan(text, &mut plan),
+            Err(TextFault { line, fault }),
+            "{note}"
+        );
         assert_eq!(rt; plan.count(), 1, "{note}");
         assert_eq!(rt; plan.row(0), Some(SECOND), "{note}");
     }
@@ -83,7 +88,13 @@ mod tests {
         for (text, line, fault) in cases {
             fails(&rt, text.as_bytes(), text, line, fault);
         }
-        fails(&rt, b"shared 2 \xff", "no text at all", 1, LineFault::Number);
+        fails(
+            &rt,
+            b"shared 2 \xff",
+            "no text at all",
+            1,
+            LineFault::Number,
+        );
     }
 
     #[test]
@@ -105,7 +116,13 @@ mod tests {
             ),
         ];
         for (text, line, refusal) in cases {
-            fails(&rt, text.as_bytes(), text, line, LineFault::Refused(refusal));
+            fails(
+                &rt,
+                text.as_bytes(),
+                text,
+                line,
+                LineFault::Refused(refusal),
+            );
         }
     }
 

@@ -1,5 +1,7 @@
 // The planner: packs a written plan into the aircraft's plan file, and shows plan files. What a plan, a
 // plan file and a table are is proved in the libraries; here bytes only go from files to them and back.
+#![tactic(auto)]
+
 use anyhow::anyhow;
 use plan::Plan;
 use plan_text::{fault_message, message, parse_plan, table};

@@ -1,14 +1,13 @@
 -- What one read of a field tells of the record that it is part of.
-use Rattle.std.proofs.Common.{◌≡◌, ℕ, ◌+◌, ◌*◌, ◌^◌, ◌<◌, ◌≤◌, Bool, true, false, cond, eqb, leb, List, length, Ok, Err, Result, sym, refl, ap, ◌∙◌, arith}
+use Rattle.std.proofs.Common.{◌≡◌, ℕ, ◌+◌, ◌*◌, ◌^◌, ◌<◌, ◌≤◌, true, false, eqb, List, length, Ok, Err, sym, ap, ◌∙◌, arith}
 use Rattle.std.proofs.lemmas.Bool.{le-leb, eq-eqb, ne_eqb}
 use Rattle.std.proofs.lemmas.Bool.Decides.{nat_tests}
 use Rattle.bits.specs.declared.fault.BitsFault.{BitsFault}
-use Rattle.bits.specs.declared.fault.BitsFault.TheVariants.{Short}
 use Rattle.bits.specs.Fields.{field_at, field_read, has_field, place_after}
 use Rattle.bits.proofs.Fields.{field_lt}
 use Rattle.records.specs.declared.fault.RecordsFault.TheVariants.{Bits, ZeroBits}
 use Rattle.records.specs.Packed.{kind_of}
-use Rattle.records.specs.PlanFile.{row_read, terms_at}
+use Rattle.records.specs.PlanFile.{row_read}
 use Rattle.records.specs.Trace.{record_of, record_read}
 
 -- a field of n bits from bit p on was read: its value, and where the next begins

@@ -1,6 +1,6 @@
 -- A file that is accepted is the packed form of the plan that it gave: its count and each of its rows can
 -- be read in one way only.
-use Rattle.std.proofs.Common.{◌≡◌, ℕ, zero, suc, ◌+◌, ◌*◌, ◌<◌, ◌≤◌, Bool, true, false, cond, eqb, ltb, leb, List, [], ◌∷◌, ◌++◌, length, get_or, drop, Some, None, Ok, Err, Option, Result, sym, refl, ap, ◌∙◌, ⊎_elim, append_assoc, arith, length-append}
+use Rattle.std.proofs.Common.{◌≡◌, ℕ, zero, suc, ◌+◌, ◌*◌, ◌<◌, ◌≤◌, Bool, true, false, cond, eqb, ltb, List, [], ◌∷◌, ◌++◌, length, get_or, drop, Some, None, Ok, Err, Option, Result, sym, refl, ap, ◌∙◌, append_assoc, arith}
 use Rattle.std.specs.List.{flat_map}
 use Rattle.std.proofs.lemmas.List.{drop_all, append-nil, drop_more}
 use Rattle.std.proofs.lemmas.Bool.{ltb-false, leb-true, eqb-true}
@@ -12,10 +12,10 @@ use Rattle.plan.specs.declared.terms.Terms.{Terms}
 use Rattle.plan.specs.Plan.{refusal, answer_for, rows_for}
 use Rattle.records.specs.declared.fault.RecordsFault.TheVariants.{Bits, ZeroBits, Trailing}
 use Rattle.records.specs.declared.fault.PlanFileFault.{PlanFileFault}
-use Rattle.records.specs.declared.fault.PlanFileFault.TheVariants.{Records, Plan}
+use Rattle.records.specs.declared.fault.PlanFileFault.TheVariants.{Records}
 use Rattle.records.specs.declared.fault.Placed.{Placed}
 use Rattle.records.specs.Packed.{packed_row, packed_plan}
-use Rattle.records.specs.PlanFile.{terms_at, rows_with, row_given, row_taken, onward, rows_from, in_file, count_read, plan_read}
+use Rattle.records.specs.PlanFile.{terms_at, rows_with, row_given, row_taken, onward, rows_from, in_file, plan_read}
 use Rattle.records.proofs.Rows.{row_bytes}
 
 -- a row that was taken was there whole, with its zero bits zero, and stands behind the others

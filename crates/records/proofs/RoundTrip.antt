@@ -1,5 +1,5 @@
 -- The packed form of a plan reads back as that plan, row by row.
-use Rattle.std.proofs.Common.{◌≡◌, ℕ, zero, suc, ◌+◌, ◌-◌, ◌*◌, ◌/◌, ◌%◌, ◌^◌, ◌<◌, ◌≤◌, Bool, true, false, cond, eqb, ltb, leb, List, [], ◌∷◌, ◌++◌, length, get_or, drop, None, Ok, Err, Result, sym, refl, ap, ◌∙◌, append_assoc, arith, length-append}
+use Rattle.std.proofs.Common.{◌≡◌, ℕ, ◌+◌, ◌*◌, ◌/◌, ◌%◌, ◌^◌, ◌<◌, ◌≤◌, true, false, eqb, ltb, List, [], ◌∷◌, ◌++◌, length, get_or, None, Ok, sym, refl, ap, ◌∙◌, append_assoc, arith, length-append}
 use Rattle.std.specs.List.{flat_map, AllByRecursion as All}
 use Rattle.std.proofs.lemmas.Nat.{div-mul-add, mod-mul-add}
 use Rattle.std.proofs.lemmas.List.{get_or-append-add, append-nil, length_push, length-take}
@@ -10,11 +10,11 @@ use Rattle.bits.proofs.Fields.{byte_field}
 use Rattle.plan.specs.declared.table.Plan.{Plan}
 use Rattle.plan.specs.declared.terms.Terms.{Terms}
 use Rattle.plan.specs.Terms.{common_multiple, most_rows, weight_of}
-use Rattle.plan.specs.Plan.{rows_of, load_of, added, rows_after, answer_for, rows_for, refusal}
+use Rattle.plan.specs.Plan.{rows_of, load_of, answer_for, rows_for, refusal}
 use Rattle.plan.proofs.Adding.{Sound, takes_sound, period_le, rows_sound}
-use Rattle.records.specs.Packed.{kind_bit, kind_of, row_word, bytes_of, packed_row, packed_plan}
-use Rattle.records.specs.PlanFile.{row_read, terms_at, row_taken, onward, rows_from, in_file, count_read, plan_read}
-use Rattle.records.proofs.Rows.{field, field_below, word, word_of_bytes, field_of_bytes, field_of_row, kind_bit_lem, kind_kept, kind_below}
+use Rattle.records.specs.Packed.{kind_bit, kind_of, row_word, packed_row, packed_plan}
+use Rattle.records.specs.PlanFile.{row_read, row_taken, onward, rows_from, in_file, count_read, plan_read}
+use Rattle.records.proofs.Rows.{field, field_below, word_of_bytes, field_of_bytes, field_of_row, kind_kept, kind_below}
 use Rattle.records.proofs.Taken.{row_added}
 
 -- a number tells its last digit and what stands before it

@@ -1,14 +1,13 @@
 -- A row's 32 bits, seen as four bytes and seen as four fields, are one number.
-use Rattle.std.proofs.Common.{◌≡◌, ℕ, zero, suc, ◌+◌, ◌-◌, ◌*◌, ◌/◌, ◌%◌, ◌^◌, ◌<◌, ◌≤◌, Bool, true, false, cond, eqb, leb, List, [], ◌∷◌, ◌++◌, length, get_or, drop, sym, refl, ap, ◌∙◌, arith}
+use Rattle.std.proofs.Common.{◌≡◌, ℕ, zero, suc, ◌+◌, ◌*◌, ◌/◌, ◌%◌, ◌^◌, ◌<◌, ◌≤◌, List, [], ◌∷◌, ◌++◌, length, get_or, drop, sym, refl, ap, ◌∙◌, arith}
 use Rattle.std.proofs.lemmas.List.{drop_more}
 use Rattle.std.proofs.lemmas.Nat.{div-mul-add, mod-mul-add}
-use Rattle.bits.specs.Fields.{field_at, has_field}
+use Rattle.bits.specs.Fields.{field_at}
 use Rattle.bits.proofs.Fields.{field_split, field_lt, byte_field}
 use Rattle.plan.specs.declared.terms.Kind.{Kind}
 use Rattle.plan.specs.declared.terms.Kind.TheVariants.{NonIsolated, Isolated}
-use Rattle.plan.specs.declared.terms.Terms.{Terms}
 use Rattle.records.specs.Packed.{kind_bit, kind_of, row_word, bytes_of, packed_row}
-use Rattle.records.specs.PlanFile.{row_read, terms_at}
+use Rattle.records.specs.PlanFile.{terms_at}
 
 -- the value of a field, kept shut here so that its bits are not written out
 unfoldable pub field : List ℕ → ℕ → ℕ → ℕ

@@ -1,5 +1,5 @@
 -- What reading and writing a plan file answers, for every sequence of bytes and every buffer.
-use Rattle.std.specs.Prelude.{ℕ, zero, suc, ◌+◌, ◌*◌, cond, List, [], ◌∷◌, ◌++◌, length, drop, Ok, Err, Result, ◌==◌, nat_le, nat_lt}
+use Rattle.std.specs.Prelude.{ℕ, zero, suc, ◌+◌, ◌*◌, cond, List, [], ◌++◌, length, drop, Ok, Err, Result, ◌==◌, nat_le, nat_lt}
 use Rattle.bits.specs.declared.fault.BitsFault.TheVariants.{Short}
 use Rattle.bits.specs.Fields.{field_at, has_field}
 use Rattle.plan.specs.declared.fault.PlanFault.{PlanFault}

@@ -1,4 +1,6 @@
 //! Plan files: reading and writing packed records, with faults that tell the number, the layer and the byte.
+#![tactic(auto)]
+
 pub mod fault;
 mod layout;
 pub mod reading;

@@ -1,4 +1,6 @@
 //! Plan files: worked examples, and every fault with its number, layer and byte.
+#![tactic(auto)]
+
 #[cfg(test)]
 mod tests {
     use plan::{Kind, Plan, Terms};

@@ -1,5 +1,7 @@
 //! A donor rule from outside the library: it steals from the richest offer. It is written and proved against
 //! the interface alone, as anybody's rule can be.
+#![tactic(auto)]
+
 ghost use Rattle.std.specs.Prelude.{◌≡◌};
 ghost use Rattle.donor.specs.Rules.{same_state};
 ghost use Rattle.richest.specs.Richest.{richer, richest_choice, IsRichest};

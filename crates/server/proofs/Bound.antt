@@ -13,7 +13,7 @@ use Rattle.server.specs.declared.row.Row.{Row}
 use Rattle.server.specs.declared.turn.Payment.{Payment}
 use Rattle.server.specs.Row.{happens}
 use Rattle.server.specs.Turn.{Choice, blank_row, runner_of, payment_of}
-use Rattle.server.specs.Tick.{changed, charged_for, paid, finished_by, passed, settled}
+use Rattle.server.specs.Tick.{charged_for, paid, finished_by, passed, settled}
 use Rattle.server.specs.Demand.{demand, Kept, Sound, Inside, SpentIn, ArrivalKeepsTheBound, TickKeepsTheBound, NothingIsLeftAtADeadline}
 use Rattle.server.proofs.Asks.{asks_later}
 use Rattle.server.proofs.Passing.{Quiet, by_phase, Passed, passes}

@@ -1,5 +1,5 @@
 -- What every row keeps is kept where one row is changed, and where the clock goes on.
-use Rattle.std.proofs.Common.{◌≡◌, ℕ, suc, ◌+◌, ◌-◌, ◌*◌, ◌<◌, ◌≤◌, eqb, leb, List, map, length, get_or, set, sym, refl, ap, ◌∙◌, subst, ⊎_elim, mul-le-mul_right, mul_comm, zero-mul, arith}
+use Rattle.std.proofs.Common.{◌≡◌, ℕ, suc, ◌+◌, ◌-◌, ◌*◌, ◌<◌, ◌≤◌, eqb, leb, List, map, length, get_or, sym, refl, ap, ◌∙◌, subst, ⊎_elim, mul-le-mul_right, mul_comm, zero-mul, arith}
 use Rattle.std.specs.List.{AllByRecursion as All}
 use Rattle.std.proofs.ByRecursion.{All-get_or, All-set, All-map, All-weaker}
 use Rattle.std.proofs.lemmas.List.{set_past}
@@ -8,11 +8,11 @@ use Rattle.plan.specs.declared.terms.Kind.{Kind}
 use Rattle.plan.specs.declared.terms.Kind.TheVariants.{NonIsolated, Isolated}
 use Rattle.server.specs.declared.row.Event.{Event}
 use Rattle.server.specs.declared.row.Event.TheVariants.{Arrival, Finish, Deadline}
-use Rattle.server.specs.declared.row.Phase.TheVariants.{Resting, AtWork, Supplying}
+use Rattle.server.specs.declared.row.Phase.TheVariants.{AtWork, Supplying}
 use Rattle.server.specs.declared.row.Row.{Row}
 use Rattle.server.specs.declared.turn.Source.{Source}
 use Rattle.server.specs.declared.turn.Source.TheVariants.{Own, Residual, Stolen, Idle, Empty}
-use Rattle.server.specs.Row.{with_phase, recharged, renewed, happens, charged_own, charged_residual}
+use Rattle.server.specs.Row.{with_phase, renewed, happens, charged_own, charged_residual}
 use Rattle.server.specs.Turn.{blank_row}
 use Rattle.server.specs.Tick.{changed, ready_to_pay, charged_for, passed}
 use Rattle.server.specs.Demand.{Fit, Kept, Sound}

@@ -6,7 +6,7 @@ use Rattle.std.proofs.lemmas.Bool.{cond_both, leb-false, eqb-true, eqb-false}
 use Rattle.server.specs.declared.row.Phase.{Phase}
 use Rattle.server.specs.declared.row.Phase.TheVariants.{Resting, AtWork, Supplying}
 use Rattle.server.specs.declared.row.Row.{Row}
-use Rattle.server.specs.Row.{with_phase, with_capacities, recharged, renewed, cut_at}
+use Rattle.server.specs.Row.{with_phase, with_capacities, renewed, cut_at}
 use Rattle.server.specs.Tick.{passed}
 use Rattle.server.specs.Demand.{demand, Fit, Kept}
 use Rattle.server.proofs.Asks.{asks_share, asks_less, asks_recharged, asks_passed}

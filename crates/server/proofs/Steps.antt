@@ -13,7 +13,7 @@ use Rattle.server.specs.Row.{most_jobs, with_phase, with_capacities, recharged, 
 use Rattle.server.specs.Turn.{is_at_work, supplies, offer_of, offer_in}
 use Rattle.server.specs.Tick.{charged_for}
 use Rattle.server.specs.Demand.{demand, Kept}
-use Rattle.server.proofs.Asks.{asks, asks_less, asks_one_less, asks_recharged, asks_passed}
+use Rattle.server.proofs.Asks.{asks_less, asks_one_less, asks_recharged, asks_passed}
 use Rattle.server.proofs.Passing.{Quiet, by_phase}
 
 -- a row that asks for no more than before

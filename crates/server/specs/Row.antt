@@ -1,7 +1,6 @@
 -- One server's row, and what is done to it. All functions are plain: they give the row afterwards.
-use Rattle.std.specs.Prelude.{ℕ, ◌+◌, ◌-◌, ◌*◌, ◌/◌, min, Bool, cond, ◌==◌, nat_le}
+use Rattle.std.specs.Prelude.{ℕ, ◌+◌, ◌-◌, ◌*◌, ◌/◌, min, cond, ◌==◌, nat_le}
 use Rattle.plan.specs.declared.terms.Terms.{Terms}
-use Rattle.server.specs.declared.row.Account.{Account}
 use Rattle.server.specs.declared.row.Event.{Event}
 use Rattle.server.specs.declared.row.Event.TheVariants.{Arrival, Finish, Deadline}
 use Rattle.server.specs.declared.row.Phase.{Phase}

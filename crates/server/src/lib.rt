@@ -1,5 +1,7 @@
 //! The servers: one row for each, with its terms, its phase and its account; the table of rows; and what can
 //! be stolen from whom.
+#![tactic(auto)]
+
 pub mod instant;
 pub mod offers;
 pub mod row;

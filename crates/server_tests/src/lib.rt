@@ -1,4 +1,6 @@
 //! One row: what each event does in each phase, and recharges, charges and cuts at their edges.
+#![tactic(auto)]
+
 #[cfg(test)]
 mod tests {
     use plan::{Kind, Plan, Terms};

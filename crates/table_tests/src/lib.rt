@@ -1,4 +1,6 @@
 //! A table: who runs, who pays and from what, and what is done to its rows, one at a time.
+#![tactic(auto)]
+
 #[cfg(test)]
 mod tests {
     use donor::{EarliestFirst, Nobody, Offer};

@@ -7,10 +7,10 @@ use Rattle.donor.specs.declared.allowance.Allowance.{Allowance}
 use Rattle.donor.specs.declared.earliest_first.EarliestFirst.{EarliestFirst}
 use Rattle.donor.specs.declared.rule.DonorRule.{Ghosts}
 use Rattle.donor.specs.declared.turns.Turns.{Turns}
-use Rattle.donor.specs.contracts.allowance.AllowanceDonorRule.TheImpl as allowance·rule
-use Rattle.donor.specs.contracts.earliest_first.EarliestFirst as earliest·type
-use Rattle.donor.specs.contracts.earliest_first.EarliestFirstDonorRule.TheImpl as earliest·rule
-use Rattle.donor.specs.contracts.turns.TurnsDonorRule.TheImpl as turns·rule
+use Rattle.donor.specs.contracts.allowance.AllowanceDonorRule.TheImpl as allowance_rule
+use Rattle.donor.specs.contracts.earliest_first.EarliestFirst as earliest_type
+use Rattle.donor.specs.contracts.earliest_first.EarliestFirstDonorRule.TheImpl as earliest_rule
+use Rattle.donor.specs.contracts.turns.TurnsDonorRule.TheImpl as turns_rule
 use Rattle.executive.specs.Calls.{State, fresh_state}
 use Rattle.flight.specs.declared.fault.FlightFault.{FlightFault}
 use Rattle.flight.specs.Flight.{Flown, played}
@@ -24,17 +24,17 @@ pub record Rule (R : Type 0) : Type 1 where
 
 -- E: the earliest offer
 abbrev pub E : Rule EarliestFirst
-E = record { letter = 69; ghosts = earliest·rule.ghosts; first = record {} }
+E = record { letter = 69; ghosts = earliest_rule.ghosts; first = record {} }
 
 -- T: the offers in turns
 abbrev pub T : Rule Turns
-T = record { letter = 84; ghosts = turns·rule.ghosts; first = record { last = None } }
+T = record { letter = 84; ghosts = turns_rule.ghosts; first = record { last = None } }
 
 -- A: an allowance of one tick a frame over E
 abbrev pub A : Rule (Allowance EarliestFirst)
 A = record {
   letter = 65;
-  ghosts = allowance·rule.ghosts earliest·type.the_row earliest·rule.ghosts earliest·rule.dict;
+  ghosts = allowance_rule.ghosts earliest_type.the_row earliest_rule.ghosts earliest_rule.dict;
   first = record { limit = 1; tally = record { frame = 0; counts = replicate 32 0 }; below = record {} };
 }
 

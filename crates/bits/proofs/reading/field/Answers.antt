@@ -1,7 +1,7 @@
 -- After k turns the value is that of the first k bits.
-use Rattle.std.proofs.Common.{◌≡◌, ℕ, ◌+◌, ◌*◌, ◌/◌, ◌%◌, get_or, sym, ap, ◌∙◌, arith}
-use Rattle.bits.specs.Fields.{bits_before, bit_of, field_at}
-use Rattle.bits.proofs.Fields.{field_more, field_fits, bit_lt}
+use Rattle.std.proofs.Common.{arith}
+use Rattle.bits.specs.Fields.{bits_before}
+use Rattle.bits.proofs.Fields.{field_more, field_fits}
 use Rattle.bits.proofs.reading.field.Goals as goal
 
 pub overflow_mul-value : goal.overflow_mul-value

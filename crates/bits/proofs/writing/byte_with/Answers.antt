@@ -1,5 +1,5 @@
 -- The old bit is part of the byte, so it can be taken out, and the new one fits where it was.
-use Rattle.std.proofs.Common.{◌≡◌, ℕ, ◌-◌, ◌*◌, ◌^◌, ◌≤◌, ap, ◌∙◌, arith}
+use Rattle.std.proofs.Common.{◌≡◌, ℕ, ◌-◌, ◌*◌, ◌^◌, ap, ◌∙◌, arith}
 use Rattle.bits.specs.Fields.{bit_of}
 use Rattle.bits.proofs.Bytes.{byte_parts, byte_lt}
 use Rattle.bits.proofs.writing.byte_with.Goals as goal

@@ -1,5 +1,5 @@
 -- After k turns the first k bits are those of the value.
-use Rattle.std.proofs.Common.{◌≡◌, ℕ, ◌+◌, ◌/◌, set, sym, ap, ◌∙◌, arith}
+use Rattle.std.proofs.Common.{arith}
 use Rattle.bits.proofs.Written.{put_field_more}
 use Rattle.bits.proofs.writing.put_field.Goals as goal
 

@@ -1,5 +1,5 @@
 -- What is left to look at gives the same answer as the whole.
-use Rattle.std.proofs.Common.{◌≡◌, sym, ◌∙◌, arith}
+use Rattle.std.proofs.Common.{sym, ◌∙◌, arith}
 use Rattle.donor.specs.Rules.{blank_offer}
 use Rattle.donor.specs.Above.{above_here, above_later, above_none}
 use Rattle.donor.proofs.turns.first_above.Goals as goal

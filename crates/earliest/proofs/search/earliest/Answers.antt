@@ -1,5 +1,5 @@
 -- What is left to look at gives the same answer as the whole.
-use Rattle.std.proofs.Common.{◌≡◌, ◌+◌, drop, None, sym, ap, ◌∙◌, subst, arith}
+use Rattle.std.proofs.Common.{◌+◌, drop, sym, ap, ◌∙◌, subst, arith}
 use Rattle.earliest.specs.Earliest.{position_of, after_all, IsEarliest}
 use Rattle.earliest.proofs.First.{one_more, all_done, is_earliest}
 use Rattle.earliest.proofs.search.earliest.Goals as goal

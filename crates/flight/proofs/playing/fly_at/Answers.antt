@@ -1,11 +1,10 @@
 -- A record that was read is flown.
-use Rattle.std.proofs.Common.{◌≡◌, List, ◌++◌, Ok, Err, Result, sym, ap, ◌∙◌, subst}
+use Rattle.std.proofs.Common.{◌++◌, Err, Result, sym, ap, ◌∙◌, subst}
 use Rattle.std.proofs.lemmas.Result.{err_from_is_err_and}
 use Rattle.records.specs.declared.fault.RecordsFault.{RecordsFault}
 use Rattle.records.specs.declared.trace.TraceRecord.{TraceRecord}
-use Rattle.records.specs.Trace.{record_read}
 use Rattle.executive.specs.State.{state_of}
-use Rattle.flight.specs.Flight.{Line, ended_by, flown_record, flown_read}
+use Rattle.flight.specs.Flight.{ended_by, flown_record, flown_read}
 use Rattle.flight.proofs.Recording.{as_flight, called_ends}
 use Rattle.flight.proofs.playing.fly_at.Goals as goal
 

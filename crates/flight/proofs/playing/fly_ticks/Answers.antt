@@ -1,7 +1,7 @@
 -- Each tick that is granted adds its line; one that is refused ends it.
-use Rattle.std.proofs.Common.{◌≡◌, ℕ, suc, ◌+◌, ◌-◌, false, List, [], ◌∷◌, ◌++◌, Some, None, Err, sym, refl, ap, ◌∙◌, subst, append_assoc, append-nil, arith}
+use Rattle.std.proofs.Common.{◌≡◌, ℕ, ◌+◌, ◌-◌, false, List, [], ◌∷◌, ◌++◌, Some, None, Err, sym, ap, ◌∙◌, subst, append_assoc, append-nil, arith}
 use Rattle.std.proofs.lemmas.Result.{err_from_is_err_and}
-use Rattle.executive.specs.Calls.{State, ticked_by}
+use Rattle.executive.specs.Calls.{State}
 use Rattle.executive.specs.State.{state_of}
 use Rattle.flight.specs.Flight.{Line, flown_ticks}
 use Rattle.flight.proofs.Flying.{Onward, tick_onward, tick_ended, start_onward, refused_stays, parts}

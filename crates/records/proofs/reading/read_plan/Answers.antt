@@ -1,8 +1,6 @@
 -- Both parts went well, so the file was read whole, and there is only one such file.
-use Rattle.std.proofs.Common.{◌≡◌, List, [], Ok, sym, ap, ◌∙◌, arith}
-use Rattle.plan.specs.declared.terms.Terms.{Terms}
+use Rattle.std.proofs.Common.{◌≡◌, [], Ok, sym, ap, ◌∙◌, arith}
 use Rattle.plan.specs.Plan.{rows_of}
-use Rattle.records.specs.Packed.{packed_plan}
 use Rattle.records.specs.PlanFile.{answer_of, rows_left, onward, rows_from, plan_read}
 use Rattle.records.proofs.Taken.{went_well, no_fault}
 use Rattle.records.proofs.OneFile.{one_file}

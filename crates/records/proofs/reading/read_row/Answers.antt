@@ -1,6 +1,6 @@
 -- Each field that is read leaves the next one to begin behind it; a field that is not there means that
 -- the record is not there whole.
-use Rattle.std.proofs.Common.{◌≡◌, ◌*◌, arith}
+use Rattle.std.proofs.Common.{arith}
 use Rattle.std.proofs.lemmas.Result.{err_from_is_err_and}
 use Rattle.bits.specs.Fields.{bits_before}
 use Rattle.records.proofs.Fetched.{Fetched, fetched, fetched_small, short_row, zero_bits_set, row_read_lem}

@@ -2,7 +2,7 @@
 use Rattle.std.proofs.Common.{◌∙◌, arith}
 use Rattle.std.proofs.lemmas.Result.{err_from_is_err_and}
 use Rattle.bits.specs.Fields.{bits_before}
-use Rattle.records.proofs.Fetched.{Fetched, fetched, fetched_small, short_record, record_read_lem}
+use Rattle.records.proofs.Fetched.{Fetched, fetched, short_record, record_read_lem}
 use Rattle.records.proofs.trace.read_record.Goals as goal
 use Rattle.records.proofs.trace.read_record.Goals.{In_ok-kind, In_ok-argument}
 

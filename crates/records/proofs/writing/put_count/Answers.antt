@@ -1,4 +1,4 @@
-use Rattle.std.proofs.Common.{◌≡◌, refl, arith}
+use Rattle.std.proofs.Common.{refl, arith}
 use Rattle.bits.specs.Fields.{bits_before}
 use Rattle.records.proofs.RowPut.{count_put, put_at}
 use Rattle.records.proofs.writing.put_count.Goals as goal

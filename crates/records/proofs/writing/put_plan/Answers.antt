@@ -1,5 +1,5 @@
 -- Every row of a plan fits its fields, and stands where the packed form has it.
-use Rattle.std.proofs.Common.{◌≡◌, ℕ, ◌+◌, ◌*◌, ◌≤◌, List, ◌++◌, length, get_or, take, drop, sym, ap, ◌∙◌, arith}
+use Rattle.std.proofs.Common.{ℕ, ◌+◌, ◌*◌, List, ◌++◌, length, get_or, take, drop, ap, ◌∙◌, arith}
 use Rattle.plan.specs.declared.terms.Terms.{Terms}
 use Rattle.plan.specs.Terms.{blank}
 use Rattle.records.specs.Packed.{packed_row, packed_plan, packed_length}

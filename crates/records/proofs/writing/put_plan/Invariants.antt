@@ -1,6 +1,5 @@
 use Rattle.std.proofs.Common.{◌≡◌, ◌+◌, ◌*◌, ◌∷◌, ◌++◌, length, take, drop}
 use Rattle.std.specs.List.{flat_map}
-use Rattle.plan.specs.Plan.{rows_of}
 use Rattle.records.specs.Packed.{packed_row}
 use Rattle.records.proofs.writing.put_plan.Given as goal
 

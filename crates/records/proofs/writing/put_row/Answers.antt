@@ -1,5 +1,5 @@
 -- Each field begins where the one before it ended.
-use Rattle.std.proofs.Common.{◌≡◌, ◌+◌, ◌*◌, refl, arith}
+use Rattle.std.proofs.Common.{◌+◌, ◌*◌, refl, arith}
 use Rattle.bits.specs.Fields.{bits_before}
 use Rattle.records.specs.Packed.{kind_bit}
 use Rattle.records.proofs.RowPut.{row_put, put_at}

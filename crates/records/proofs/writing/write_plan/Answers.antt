@@ -1,5 +1,5 @@
 -- What was filled is the packed form, which reads back.
-use Rattle.std.proofs.Common.{◌≡◌, ℕ, true, leb, List, length, take, drop, sym, ap, ◌∙◌, arith}
+use Rattle.std.proofs.Common.{◌≡◌, ℕ, true, leb, length, take, drop, ap, ◌∙◌, arith}
 use Rattle.std.proofs.lemmas.List.{take_at}
 use Rattle.std.proofs.lemmas.Bool.{le-leb}
 use Rattle.plan.specs.Plan.{rows_of}

@@ -1,5 +1,4 @@
-use Rattle.std.proofs.Common.{◌≡◌, ℕ, cond, eqb, sym, ap, subst, rules}
-use Rattle.donor.specs.Tally.{count_at}
+use Rattle.std.proofs.Common.{rules}
 use Rattle.donor.specs.Counts.{first_in_frame}
 use Rattle.donor.proofs.allowance.AllowanceDonorRule.charged.Goals as goal
 

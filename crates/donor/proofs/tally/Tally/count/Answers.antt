@@ -1,4 +1,4 @@
-use Rattle.std.proofs.Common.{◌≡◌, sym, ◌∙◌}
+use Rattle.std.proofs.Common.{sym, ◌∙◌}
 use Rattle.donor.specs.Counts.{other_frame}
 use Rattle.donor.proofs.tally.Tally.count.Goals as goal
 

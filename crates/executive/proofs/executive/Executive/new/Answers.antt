@@ -1,5 +1,5 @@
 -- The table of a plan keeps the bound; so the law holds of every run from there.
-use Rattle.std.proofs.Common.{◌≡◌, ℕ, ◌≤◌, List, sum_by, sym, ap, ◌∙◌, subst, arith}
+use Rattle.std.proofs.Common.{ℕ, ◌≤◌, List, sum_by, sym, ap, ◌∙◌, subst, arith}
 use Rattle.plan.specs.Plan.{rows_of}
 use Rattle.plan.specs.Terms.{common_multiple, weight_of}
 use Rattle.plan.proofs.Adding.{rows_sound}

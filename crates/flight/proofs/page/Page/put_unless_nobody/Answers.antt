@@ -1,8 +1,7 @@
-use Rattle.std.proofs.Common.{◌≡◌, ℕ, ◌≤◌, false, eqb, List, ◌++◌, length, decimal, sym, ap, ◌∙◌, arith}
+use Rattle.std.proofs.Common.{◌≡◌, ◌≤◌, false, eqb, length, decimal, arith}
 use Rattle.std.proofs.lemmas.Fmt.{length-decimal-le}
-use Rattle.std.proofs.lemmas.Bool.{ne_eqb, cond-false}
+use Rattle.std.proofs.lemmas.Bool.{ne_eqb}
 use Rattle.executive.specs.Calls.{nobody}
-use Rattle.flight.specs.Page.{page_text}
 use Rattle.flight.proofs.page.Page.put_unless_nobody.Goals as goal
 
 pub returns-else-server-eq-NOBODY : goal.returns-else-server-eq-NOBODY

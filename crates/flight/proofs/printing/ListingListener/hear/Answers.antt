@@ -1,6 +1,5 @@
 -- What waits is the end of all text, and the new line stands behind it.
 use Rattle.std.proofs.Common.{◌≡◌, ℕ, List, [], ◌∷◌, ◌++◌, sym, ap, ◌∙◌, append_assoc, append-nil}
-use Rattle.std.specs.List.{flat_map}
 use Rattle.flight.specs.Flight.{Line}
 use Rattle.flight.specs.Page.{page_text}
 use Rattle.flight.specs.Listing.{line_text, lines_text, EndsWith}

@@ -1,8 +1,7 @@
 -- The new row keeps the limits, since every reason to refuse it has been tested.
-use Rattle.std.proofs.Common.{◌≡◌, ℕ, ◌+◌, ◌<◌, ◌≤◌, [], ◌∷◌, length, take, None, sym, refl, ap, ◌∙◌, arith, length-set}
+use Rattle.std.proofs.Common.{◌≡◌, ℕ, ◌+◌, ◌<◌, length, None, sym, ap, ◌∙◌, arith, length-set}
 use Rattle.std.proofs.lemmas.List.{take_more_set, length-take-le}
-use Rattle.plan.specs.Terms.{weight_of, common_multiple}
-use Rattle.plan.specs.Plan.{rows_of, refusal, load_of, answer_for, rows_for}
+use Rattle.plan.specs.Plan.{rows_of, refusal, load_of, rows_for}
 use Rattle.plan.proofs.Adding.{sound_terms, sound_more, load_more, no_refusal}
 use Rattle.plan.proofs.table.Plan.add.Goals as goal
 

@@ -1,4 +1,4 @@
-use Rattle.std.proofs.Common.{◌≡◌, ◌<◌, true, ltb, length, get_or, take, arith}
+use Rattle.std.proofs.Common.{◌≡◌, true, ltb, length, arith}
 use Rattle.std.proofs.lemmas.List.{length-take-le, get_or-take}
 use Rattle.std.proofs.lemmas.Bool.{lt-ltb}
 use Rattle.plan.specs.Terms.{blank}

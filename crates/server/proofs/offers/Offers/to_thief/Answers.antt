@@ -1,8 +1,7 @@
-use Rattle.std.proofs.Common.{◌+◌, List, [], ◌++◌, length, get_or, take, Option, sym, ap, ◌∙◌, arith}
+use Rattle.std.proofs.Common.{List, [], ◌++◌, take, Option, sym, ap, ◌∙◌, arith}
 use Rattle.std.proofs.lemmas.List.{take_all}
 use Rattle.donor.specs.declared.offer.Offer.{Offer}
-use Rattle.server.specs.declared.row.Row.{Row}
-use Rattle.server.specs.Turn.{offer_of, join_offer, offers_to}
+use Rattle.server.specs.Turn.{join_offer, offers_to}
 use Rattle.server.proofs.Offering.{offers_more}
 use Rattle.server.proofs.offers.Offers.to_thief.Goals as goal
 

@@ -1,11 +1,9 @@
 -- Row by row the fresh rows of the plan; and a fresh table keeps the bound.
-use Rattle.std.proofs.Common.{◌≡◌, ℕ, ◌+◌, ◌≤◌, List, [], ◌∷◌, ◌++◌, length, get_or, take, sym, ap, ◌∙◌, subst, arith, length-set}
+use Rattle.std.proofs.Common.{◌≡◌, ℕ, ◌≤◌, List, [], ◌∷◌, ◌++◌, length, take, sym, ap, ◌∙◌, subst, arith, length-set}
 use Rattle.std.proofs.lemmas.List.{take_more_set, take_all, length-take}
-use Rattle.plan.specs.declared.terms.Terms.{Terms}
 use Rattle.plan.specs.Plan.{rows_of}
 use Rattle.plan.proofs.Adding.{rows_sound}
 use Rattle.server.specs.declared.row.Row.{Row}
-use Rattle.server.specs.Row.{fresh_row}
 use Rattle.server.specs.Tick.{fresh_rows}
 use Rattle.server.specs.Demand.{Sound}
 use Rattle.server.proofs.Bound.{arrival_keeps, tick_keeps, nothing_left}

@@ -1,9 +1,6 @@
-use Rattle.std.proofs.Common.{◌≡◌, ℕ, suc, ◌-◌, List, map, sym, ap, ◌∙◌, subst, arith}
-use Rattle.std.specs.List.{AllByRecursion as All}
-use Rattle.server.specs.declared.row.Row.{Row}
+use Rattle.std.proofs.Common.{◌-◌, ◌∙◌, arith}
 use Rattle.server.specs.Tick.{passed}
 use Rattle.server.specs.Table.{table_rows}
-use Rattle.server.specs.Demand.{Kept}
 use Rattle.server.proofs.Places.{front_length, front_rows}
 use Rattle.server.proofs.Keeping.{passed_keeps}
 use Rattle.server.proofs.table.Table.pass.Goals as goal

@@ -1,9 +1,8 @@
 -- The candidates are the rows, each made one; so the earliest that can run is found where its row stands.
-use Rattle.std.proofs.Common.{◌≡◌, ℕ, ◌-◌, List, [], ◌∷◌, ◌++◌, map, length, get_or, take, sym, ap, ◌∙◌, arith, length-set}
+use Rattle.std.proofs.Common.{◌≡◌, ℕ, ◌-◌, List, [], ◌∷◌, ◌++◌, map, length, take, sym, ap, ◌∙◌, arith, length-set}
 use Rattle.std.proofs.lemmas.List.{take_more_set, take_all, map_more}
 use Rattle.earliest.specs.Earliest.{earliest_of}
 use Rattle.earliest.proofs.First.{earliest_of_made}
-use Rattle.server.specs.declared.row.Row.{Row}
 use Rattle.server.specs.declared.turn.running.Candidate.{Candidate}
 use Rattle.server.specs.Candidates.{candidate}
 use Rattle.server.proofs.turn.running.runner_of.Goals as goal
