@@ -1,6 +1,6 @@
 -- The earliest so far comes first among the records so far, and one more record keeps that.
 use Rattle.std.proofs.Common.{◌≡◌, ℕ, suc, ◌+◌, ◌<◌, ◌≤◌, Bool, true, false, cond, ◌⊎◌, List, [], ◌∷◌, ◌++◌, map, length, get_or, drop, Some, None, Option, sym, refl, ap, ◌∙◌, subst, inl, inr, ⊎_elim, append_assoc, add-one, arith}
-use Rattle.std.specs.List.{AllByRecursion as All}
+use Rattle.std.specs.List.{AllByRecursion}
 use Rattle.std.proofs.ByRecursion.{All-append, All-get_or}
 use Rattle.std.proofs.lemmas.List.{append-nil, get_or_append_left, get_or_push, length_push, at_drop_more, at_drop_all}
 use Rattle.std.proofs.lemmas.Bool.{cases_lt, cases_eq, both_ways}
@@ -31,7 +31,7 @@ module _ {C : Type 0} (deadline number : C → ℕ) (takes : C → Bool) where
     numbers : (d : C) → b.number ≡ number (get_or xs b.position d)
 
   abbrev Known : List C → Option Best → Type 0
-  Known xs None = All (λ x. takes x ≡ false) xs
+  Known xs None = AllByRecursion (λ x. takes x ≡ false) xs
   Known xs (Some b) = Leads xs b
 
   at_old : (xs : List C) (x d : C) (j : ℕ) → j < length xs → get_or (xs ++ (x ∷ [])) j d ≡ get_or xs j d

@@ -1,6 +1,6 @@
 -- The earliest of some records: the smallest deadline, then the smallest number.
 use Rattle.std.specs.Prelude.{◌≡◌, ℕ, suc, ◌<◌, Bool, true, false, cond, ◌&&◌, ◌||◌, ◌⊎◌, List, [], ◌∷◌, length, Some, None, Option, ◌==◌, ◌≢◌, nat_lt, slice_index_or}
-use Rattle.std.specs.List.{HoldsAt, AllByRecursion as All}
+use Rattle.std.specs.List.{HoldsAt, AllByRecursion}
 use Rattle.earliest.specs.declared.search.Best.{Best}
 
 -- whether a record comes before another: by deadline, and then by number
@@ -44,5 +44,5 @@ module _ {C : Type 0} (deadline number : C → ℕ) (takes : C → Bool) where
 
   -- what the earliest is: nobody exactly where no record takes part, else the one that comes first
   abbrev pub IsEarliest : List C → Option ℕ → Type 0
-  IsEarliest xs None = All (λ x. takes x ≡ false) xs
+  IsEarliest xs None = AllByRecursion (λ x. takes x ≡ false) xs
   IsEarliest xs (Some k) = ComesFirst xs k

@@ -1,6 +1,6 @@
 -- What the answer of a granted tick says of one server: whether it runs, whether it pays, and from what.
 use Rattle.std.proofs.Common.{◌≡◌, ℕ, ◌+◌, ◌-◌, ◌<◌, ◌≤◌, Bool, true, false, cond, ◌&&◌, eqb, leb, List, length, get_or, is_some, Some, None, Ok, Option, sym, refl, ap, ◌∙◌, subst, ⊎_elim, arith, get_or-set_same}
-use Rattle.std.specs.List.{AllByRecursion as All}
+use Rattle.std.specs.List.{AllByRecursion}
 use Rattle.std.proofs.ByRecursion.{All-get_or}
 use Rattle.std.proofs.lemmas.Bool.{cond_both, leb-false, ltb-true, eqb-true, eq-eqb, ne_eqb, false≢true}
 use Rattle.server.specs.declared.row.Phase.TheVariants.{Resting}
@@ -100,7 +100,7 @@ module _ (t : ℕ) (rows : List Row) (runner : Option ℕ) where
   charged_at : (payment : Payment) → FairPay t rows runner payment → get_or (paid t (Some payment) rows) payment.payer blank_row ≡ charged_for payment.source t (get_or rows payment.payer blank_row)
   charged_at payment fair = get_or-set_same rows payment.payer (charged_for payment.source t (get_or rows payment.payer blank_row)) blank_row fair.inside
 
-  pub left_at : (payment : Option Payment) → Fair t rows runner payment → All (Kept t) rows → (k : ℕ) → is_some (source_at payment k) ≡ true → payer_left payment (paid t payment rows) + 1 ≡ had (source_at payment k) t (get_or rows k blank_row)
+  pub left_at : (payment : Option Payment) → Fair t rows runner payment → AllByRecursion (Kept t) rows → (k : ℕ) → is_some (source_at payment k) ≡ true → payer_left payment (paid t payment rows) + 1 ≡ had (source_at payment k) t (get_or rows k blank_row)
   left_at None fair kept k e = absurd (false≢true e)
   left_at (Some payment) fair kept k e = by_place (eqb payment.payer k) refl e
     where

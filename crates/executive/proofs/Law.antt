@@ -1,6 +1,6 @@
 -- The law of shares, put together: what holds of each call holds of all calls of a run.
 use Rattle.std.proofs.Common.{◌≡◌, ℕ, suc, ◌<◌, ◌≤◌, List, [], ◌∷◌, map, length, get_or, sum_by, refl, ap, arith}
-use Rattle.std.specs.List.{AllByRecursion as All}
+use Rattle.std.specs.List.{AllByRecursion}
 use Rattle.std.proofs.ByRecursion.{All-get_or}
 use Rattle.plan.specs.declared.terms.Terms.{Terms}
 use Rattle.plan.specs.Terms.{blank, common_multiple, weight_of}
@@ -21,11 +21,11 @@ fresh_terms n (t ∷ terms) = ap (λ (rest : List Terms). t ∷ rest) (fresh_ter
 
 module _ {R : Type 0} (choice : RuleChoice R) (step : RuleStep R) (inside : (rule : R) (t : ℕ) → Inside (choice rule t)) (terms : List Terms) where
   -- what holds of each call on an executive that keeps its bound holds of all calls of a run
-  each : (P : Entry R → Type 0) → ((state : State R) (call : Call) → Good terms state → P (entry_of choice step state call)) → (state : State R) → Good terms state → (calls : List Call) → All P (run_from choice step state calls)
+  each : (P : Entry R → Type 0) → ((state : State R) (call : Call) → Good terms state → P (entry_of choice step state call)) → (state : State R) → Good terms state → (calls : List Call) → AllByRecursion P (run_from choice step state calls)
   each P holds state good [] = tt
   each P holds state good (call ∷ calls) = (holds state call good, each P holds (after_call choice step state call) (keeps choice step inside terms state call good) calls)
 
-  module _ (fit : All Fit terms) (light : sum_by weight_of terms ≤ common_multiple) (rule : R) where
+  module _ (fit : AllByRecursion Fit terms) (light : sum_by weight_of terms ≤ common_multiple) (rule : R) where
     start : State R
     start = fresh_state terms rule
 

@@ -1,7 +1,7 @@
 -- The law of shares: what each server of a plan is owed, and what it owes, in a run of the plan's executive. Server k has
 -- the budget Q and the period T that the plan gives it. The words are those of the page Run.
 use Rattle.std.specs.Prelude.{◌≡◌, ℕ, ◌+◌, ◌<◌, ◌≤◌, true, false, cond, ◌⊎◌, List, length, ◌≢◌, slice_index_or}
-use Rattle.std.specs.List.{AllByRecursion as All}
+use Rattle.std.specs.List.{AllByRecursion}
 use Rattle.plan.specs.declared.terms.Kind.{Kind}
 use Rattle.plan.specs.declared.terms.Kind.TheVariants.{Isolated}
 use Rattle.plan.specs.declared.terms.Terms.{Terms}
@@ -75,9 +75,9 @@ module _ {R : Type 0} (terms : List Terms) where
     pub full_budget : FullBudget run
     pub spaced_recharges : SpacedRecharges run
     pub no_overcharge : NoOvercharge run
-    pub one_payer : All OnePayer run
-    pub isolation : All Isolation run
-    pub accounts : All Accounts run
+    pub one_payer : AllByRecursion OnePayer run
+    pub isolation : AllByRecursion Isolation run
+    pub accounts : AllByRecursion Accounts run
 
 -- The law, whole, of an executive in a state: whatever calls it hears from then on.
 abbrev pub LawOfShares : {R : Type 0} → RuleChoice R → RuleStep R → List Terms → State R → Type 0

@@ -1,6 +1,6 @@
 -- One more row: what it leaves of the limits, and when `add` has no reason to refuse it.
 use Rattle.std.proofs.Common.{◌≡◌, ℕ, ◌+◌, ◌%◌, ◌<◌, ◌≤◌, false, ◌≢◌, ◌⊎◌, List, length, get_or, take, set, Some, None, Err, sum_by, Option, refl, ap, ◌∙◌, ⊎_elim, mod-eq_of_lt, arith, get_or-set_other, get_or-set_same, below_more}
-use Rattle.std.specs.List.{AllByRecursion as All}
+use Rattle.std.specs.List.{AllByRecursion}
 use Rattle.std.proofs.lemmas.Bool.Decides.{nat_tests}
 use Rattle.std.proofs.lemmas.List.{take_more_set, get_or-take, length-take}
 use Rattle.std.proofs.ByRecursion.{All-from_get_or}
@@ -60,5 +60,5 @@ period_le t sound =
 pub row_sound : (p : Plan) (k : ℕ) → k < p.count → Sound (get_or (rows_of p) k blank)
 row_sound p k inside = rw get_or-take (p.sound k inside)
 
-pub rows_sound : (p : Plan) → All Sound (rows_of p)
+pub rows_sound : (p : Plan) → AllByRecursion Sound (rows_of p)
 rows_sound p = All-from_get_or Sound (rows_of p) blank (λ k h. row_sound p k (omega (arith, length-take p.count p.rows)))

@@ -1,6 +1,6 @@
 -- The packed form of a plan reads back as that plan, row by row.
 use Rattle.std.proofs.Common.{◌≡◌, ℕ, ◌+◌, ◌*◌, ◌/◌, ◌%◌, ◌^◌, ◌<◌, ◌≤◌, true, false, eqb, ltb, List, [], ◌∷◌, ◌++◌, length, get_or, None, Ok, sym, refl, ap, ◌∙◌, append_assoc, arith, length-append}
-use Rattle.std.specs.List.{flat_map, AllByRecursion as All}
+use Rattle.std.specs.List.{flat_map, AllByRecursion}
 use Rattle.std.proofs.lemmas.Nat.{div-mul-add, mod-mul-add}
 use Rattle.std.proofs.lemmas.List.{get_or-append-add, append-nil, length_push, length-take}
 use Rattle.std.proofs.lemmas.List.Sums.{sum_by-cons, sum_by_push}
@@ -81,7 +81,7 @@ module _ (front : List ℕ) (t : Terms) (back : List ℕ) (sound : Sound t) wher
 pub record Fit (before more : List Terms) : Type 0 where
   pub few : length before + length more ≤ most_rows
   pub light : load_of before + load_of more ≤ common_multiple
-  pub sound : All Sound more
+  pub sound : AllByRecursion Sound more
 
 takes_row : (front back : List ℕ) (t : Terms) (before more : List Terms) → Fit before (t ∷ more) → row_taken (front ++ (packed_row t ++ back)) (length front) before ≡ Ok (before ++ (t ∷ []))
 takes_row front back t before more fit =

@@ -1,7 +1,7 @@
 -- The demand bound is kept by an arrival and by a tick.
 use Rattle.std.proofs.Common.{◌≡◌, ℕ, suc, ◌+◌, ◌-◌, ◌*◌, ◌/◌, ◌%◌, ◌<◌, ◌≤◌, Bool, true, false, ◌⊎◌, List, [], ◌∷◌, map, length, get_or, set, Some, None, sum_by, Option, sym, refl, ap, ◌∙◌, subst, inl, inr, ⊎_elim, le_trans, mul-le-mul_right, mul_assoc, add-mul, mul-le-mul_left, mul-zero, mul-add, mul_left_comm, arith, length-set, get_or-set_other, get_or-set_same}
 use native.Mathlib.Nat.{le_of_mul-le-mul_left, div-add-mod}
-use Rattle.std.specs.List.{AllByRecursion as All}
+use Rattle.std.specs.List.{AllByRecursion}
 use Rattle.std.proofs.lemmas.Bool.Decides.{nat_tests}
 use Rattle.std.proofs.lemmas.List.{set_past, length-map, get_or-map}
 use Rattle.std.proofs.lemmas.List.Sums.{sum_by-cons, sum_by-set, get_or-le-sum_by}
@@ -28,31 +28,31 @@ scaled H q p x n divides share =
     omega (arith, ap (λ (h : ℕ). h * x) whole, mul_assoc p m x, mul_left_comm p m x, mul-le-mul_left m share, mul_assoc q m n, mul_left_comm q m n)
 
 -- shares add up
-add_up : (H n : ℕ) (f w : Row → ℕ) (rows : List Row) → All (λ row. H * f row ≤ w row * n) rows → H * sum_by f rows ≤ sum_by w rows * n
+add_up : (H n : ℕ) (f w : Row → ℕ) (rows : List Row) → AllByRecursion (λ row. H * f row ≤ w row * n) rows → H * sum_by f rows ≤ sum_by w rows * n
 add_up H n f w [] _ = omega (arith, mul-zero H)
 add_up H n f w (row ∷ rows) (one, others) =
     rw (sum_by-cons f row rows, sum_by-cons w row rows)
     (omega (arith, mul-add H (f row) (sum_by f rows), add-mul (w row) (sum_by w rows) n, add_up H n f w rows others))
 
 -- rows that ask for no more than their shares of n ticks ask for no more than n
-pub shares_fit : (n : ℕ) (f : Row → ℕ) (rows : List Row) → sum_by (λ (row : Row). weight_of row.terms) rows ≤ common_multiple → All (λ row. (common_multiple % row.terms.period ≡ 0) × (row.terms.period * f row ≤ row.terms.budget * n)) rows → sum_by f rows ≤ n
+pub shares_fit : (n : ℕ) (f : Row → ℕ) (rows : List Row) → sum_by (λ (row : Row). weight_of row.terms) rows ≤ common_multiple → AllByRecursion (λ row. (common_multiple % row.terms.period ≡ 0) × (row.terms.period * f row ≤ row.terms.budget * n)) rows → sum_by f rows ≤ n
 shares_fit n f rows light shares =
     let all = add_up common_multiple n f (λ (row : Row). weight_of row.terms) rows (All-weaker _ _ (λ row share. scaled common_multiple row.terms.budget row.terms.period (f row) n share.0 share.1) rows shares) in
     le_of_mul-le-mul_left {m = sum_by f rows} {n = n} {k = common_multiple} (le_trans all (mul-le-mul_right n light)) (omega arith)
 
 -- sums over rows that are changed
-sum_map_le : (f g : Row → ℕ) (h : Row → Row) (rows : List Row) → All (λ row. f (h row) ≤ g row) rows → sum_by f (map h rows) ≤ sum_by g rows
+sum_map_le : (f g : Row → ℕ) (h : Row → Row) (rows : List Row) → AllByRecursion (λ row. f (h row) ≤ g row) rows → sum_by f (map h rows) ≤ sum_by g rows
 sum_map_le f g h [] _ = omega arith
 sum_map_le f g h (row ∷ rows) (one, others) = rw (sum_by-cons f (h row) (map h rows), sum_by-cons g row rows) (omega (arith, sum_map_le f g h rows others))
 
-sum_map_same : (f g : Row → ℕ) (h : Row → Row) (rows : List Row) → All (λ row. f (h row) ≡ g row) rows → sum_by f (map h rows) ≡ sum_by g rows
+sum_map_same : (f g : Row → ℕ) (h : Row → Row) (rows : List Row) → AllByRecursion (λ row. f (h row) ≡ g row) rows → sum_by f (map h rows) ≡ sum_by g rows
 sum_map_same f g h [] _ = refl
 sum_map_same f g h (row ∷ rows) (one, others) = rw (sum_by-cons f (h row) (map h rows), sum_by-cons g row rows) (omega (arith, one, sum_map_same f g h rows others))
 
 -- what a table keeps beside the bound
 record Stands (t : ℕ) (rows : List Row) : Type 0 where
   placed : (k : ℕ) → k < length rows → (get_or rows k blank_row).number ≡ k
-  kept : All (Kept t) rows
+  kept : AllByRecursion (Kept t) rows
   light : sum_by (λ (row : Row). weight_of row.terms) rows ≤ common_multiple
 
 -- one row is changed, in its place and under its terms
@@ -88,7 +88,7 @@ arrival_keeps t k rows sound =
 -- a table on its way through a tick: for each horizon a tick was charged up to it, or all is quiet up to it
 record Midway (t : ℕ) (rows : List Row) : Type 0 where
   stands : Stands t rows
-  either : (X : ℕ) → suc t ≤ X → (sum_by (demand t X) rows + 1 ≤ X - t) ⊎ All (Quiet X) rows
+  either : (X : ℕ) → suc t ≤ X → (sum_by (demand t X) rows + 1 ≤ X - t) ⊎ AllByRecursion (Quiet X) rows
 
 after_payment : (t : ℕ) (rows : List Row) (runner : Option ℕ) (payment : Option Payment) → Sound t rows → Fair t rows runner payment → Midway t (paid t payment rows)
 after_payment t rows runner None sound calm = record { stands = record { placed = sound.placed; kept = sound.kept; light = sound.light }; either = λ X h. inr (calm X) }
@@ -118,7 +118,7 @@ after_finish t rows true (Some k) midway =
       stands = stands_set t k rows after inside eased.number eased.terms eased.kept midway.stands;
       either = λ X h. ⊎_elim
           (λ (charged : sum_by (demand t X) rows + 1 ≤ X - t). inl (omega (arith, sum_by-set (demand t X) rows k after blank_row inside, eased.less X (omega arith))))
-          (λ (quiet : All (Quiet X) rows). inr (All-set (Quiet X) rows k after (ended.1 X (All-get_or (Quiet X) rows k blank_row inside quiet)) quiet))
+          (λ (quiet : AllByRecursion (Quiet X) rows). inr (All-set (Quiet X) rows k after (ended.1 X (All-get_or (Quiet X) rows k blank_row inside quiet)) quiet))
           (midway.either X h);
     })
     (λ (past : length rows ≤ k). subst (Midway t) (sym (set_past rows k (happens Finish t (get_or rows k blank_row)) past)) midway)
@@ -141,7 +141,7 @@ after_passing t rows midway =
       light = omega (arith, weights, midway.stands.light);
       bound = λ X h. ⊎_elim
           (λ (charged : sum_by (demand t X) rows + 1 ≤ X - t). omega (arith, sum_map_le (demand (suc t) X) (demand t X) (passed (suc t)) rows (All-weaker (Kept t) _ (falling X h) rows midway.stands.kept)))
-          (λ (quiet : All (Quiet X) rows). rw (sum_map_same (demand (suc t) X) (λ (row : Row). demand (suc t) X (passed (suc t) row)) (passed (suc t)) rows (All-from_get_or _ rows blank_row (λ i g. refl)))
+          (λ (quiet : AllByRecursion (Quiet X) rows). rw (sum_map_same (demand (suc t) X) (λ (row : Row). demand (suc t) X (passed (suc t) row)) (passed (suc t)) rows (All-from_get_or _ rows blank_row (λ i g. refl)))
           (shares_fit (X - suc t) (λ (row : Row). demand (suc t) X (passed (suc t) row)) rows midway.stands.light
           (All-from_get_or _ rows blank_row (λ i g. sharing X h (get_or rows i blank_row) (All-get_or (Kept t) rows i blank_row g midway.stands.kept) (All-get_or (Quiet X) rows i blank_row g quiet)))))
           (midway.either X h);
@@ -175,5 +175,5 @@ nothing_left choice t finished rows inside sound =
     ⊎_elim
     (λ (charged : sum_by (demand t (suc t)) after + 1 ≤ suc t - t).
     All-from_get_or _ after blank_row (λ i h. spent t (get_or after i blank_row) (omega (arith, get_or-le-sum_by (demand t (suc t)) after i blank_row h))))
-    (λ (quiet : All (Quiet (suc t)) after). All-weaker (Quiet (suc t)) _ (quiet_spent t) after quiet)
+    (λ (quiet : AllByRecursion (Quiet (suc t)) after). All-weaker (Quiet (suc t)) _ (quiet_spent t) after quiet)
     ((settles choice t finished rows inside sound).either (suc t) (omega arith))

@@ -1,6 +1,6 @@
 -- A fresh table keeps the demand bound.
 use Rattle.std.proofs.Common.{◌≡◌, ℕ, zero, suc, ◌+◌, ◌-◌, ◌*◌, ◌%◌, ◌<◌, ◌≤◌, List, [], ◌∷◌, ◌++◌, length, get_or, take, sum_by, refl, ap, ◌∙◌, add-zero, zero-add, zero-mul, arith}
-use Rattle.std.specs.List.{AllByRecursion as All}
+use Rattle.std.specs.List.{AllByRecursion}
 use Rattle.std.proofs.lemmas.List.{take_more, length-take-le}
 use Rattle.std.proofs.lemmas.List.Sums.{sum_by-cons}
 use Rattle.plan.specs.declared.terms.Terms.{Terms}
@@ -24,7 +24,7 @@ fresh_weight number (t ∷ more) =
     rw (sum_by-cons (λ (row : Row). weight_of row.terms) (fresh_row number t) (fresh_rows (suc number) more), sum_by-cons weight_of t more, fresh_weight (suc number) more) refl
 
 -- what is said of each fresh row is said of all
-fresh_all : (P : Row → Type 0) (number : ℕ) (terms : List Terms) → ((n : ℕ) (t : Terms) → Fit t → P (fresh_row n t)) → All Fit terms → All P (fresh_rows number terms)
+fresh_all : (P : Row → Type 0) (number : ℕ) (terms : List Terms) → ((n : ℕ) (t : Terms) → Fit t → P (fresh_row n t)) → AllByRecursion Fit terms → AllByRecursion P (fresh_rows number terms)
 fresh_all P number [] each _ = tt
 fresh_all P number (t ∷ more) each (fit, others) = (each number t fit, fresh_all P (suc number) more each others)
 

@@ -1,6 +1,6 @@
 -- What every row keeps is kept where one row is changed, and where the clock goes on.
 use Rattle.std.proofs.Common.{◌≡◌, ℕ, suc, ◌+◌, ◌-◌, ◌*◌, ◌<◌, ◌≤◌, eqb, leb, List, map, length, get_or, sym, refl, ap, ◌∙◌, subst, ⊎_elim, mul-le-mul_right, mul_comm, zero-mul, arith}
-use Rattle.std.specs.List.{AllByRecursion as All}
+use Rattle.std.specs.List.{AllByRecursion}
 use Rattle.std.proofs.ByRecursion.{All-get_or, All-set, All-map, All-weaker}
 use Rattle.std.proofs.lemmas.List.{set_past}
 use Rattle.std.proofs.lemmas.Bool.{cases_lt, cond_both, leb-true, eqb-true, eqb-false}
@@ -21,11 +21,11 @@ use Rattle.server.proofs.Steps.{arrives, finishes}
 use Rattle.server.proofs.Bound.{arrival_keeps}
 
 -- one row changed, every other row as it was
-changed_kept : (t k : ℕ) (f : Row → Row) (rows : List Row) → (k < length rows → Kept t (get_or rows k blank_row) → Kept t (f (get_or rows k blank_row))) → All (Kept t) rows → All (Kept t) (changed f k rows)
+changed_kept : (t k : ℕ) (f : Row → Row) (rows : List Row) → (k < length rows → Kept t (get_or rows k blank_row) → Kept t (f (get_or rows k blank_row))) → AllByRecursion (Kept t) rows → AllByRecursion (Kept t) (changed f k rows)
 changed_kept t k f rows change kept =
     ⊎_elim
     (λ (inside : k < length rows). All-set (Kept t) rows k (f (get_or rows k blank_row)) (change inside (All-get_or (Kept t) rows k blank_row inside kept)) kept)
-    (λ (past : length rows ≤ k). subst (All (Kept t)) (sym (set_past rows k (f (get_or rows k blank_row)) past)) kept)
+    (λ (past : length rows ≤ k). subst (AllByRecursion (Kept t)) (sym (set_past rows k (f (get_or rows k blank_row)) past)) kept)
     (cases_lt k (length rows))
 
 -- an event
@@ -49,9 +49,9 @@ event_kept Arrival t row kept = (arrives t row kept).kept
 event_kept Finish t row kept = (finishes t row kept).0.kept
 event_kept Deadline t row kept = deadline_kept t row kept
 
-pub event_keeps : (event : Event) (t k : ℕ) (rows after : List Row) → after ≡ changed (happens event t) k rows → (All (Kept t) rows → All (Kept t) after) × (event ≡ Arrival → Sound t rows → Sound t after)
+pub event_keeps : (event : Event) (t k : ℕ) (rows after : List Row) → after ≡ changed (happens event t) k rows → (AllByRecursion (Kept t) rows → AllByRecursion (Kept t) after) × (event ≡ Arrival → Sound t rows → Sound t after)
 event_keeps event t k rows after is = (
-  λ kept. subst (All (Kept t)) (sym is) (changed_kept t k (happens event t) rows (λ _. event_kept event t (get_or rows k blank_row)) kept),
+  λ kept. subst (AllByRecursion (Kept t)) (sym is) (changed_kept t k (happens event t) rows (λ _. event_kept event t (get_or rows k blank_row)) kept),
   λ arrival sound. subst (Sound t) (sym (is ∙ ap (λ (e : Event). changed (happens e t) k rows) arrival)) (arrival_keeps t k rows sound),
 )
 
@@ -109,12 +109,12 @@ charge_kept Stolen t row free kept = own_kept t (ready_to_pay t row) (ready_kept
 charge_kept Idle t row free kept = residual_kept t row kept
 charge_kept Empty t row free kept = kept
 
-pub charge_keeps : (source : Source) (t k : ℕ) (rows after : List Row) → after ≡ changed (charged_for source t) k rows → (source ≡ Stolen → (get_or rows k blank_row).terms.kind ≡ NonIsolated) → All (Kept t) rows → All (Kept t) after
-charge_keeps source t k rows after is free kept = subst (All (Kept t)) (sym is) (changed_kept t k (charged_for source t) rows (λ _. charge_kept source t (get_or rows k blank_row) free) kept)
+pub charge_keeps : (source : Source) (t k : ℕ) (rows after : List Row) → after ≡ changed (charged_for source t) k rows → (source ≡ Stolen → (get_or rows k blank_row).terms.kind ≡ NonIsolated) → AllByRecursion (Kept t) rows → AllByRecursion (Kept t) after
+charge_keeps source t k rows after is free kept = subst (AllByRecursion (Kept t)) (sym is) (changed_kept t k (charged_for source t) rows (λ _. charge_kept source t (get_or rows k blank_row) free) kept)
 
 -- the clock goes on
-passed_kept : (t : ℕ) (rows : List Row) → All (Kept t) rows → All (Kept (suc t)) (map (passed (suc t)) rows)
+passed_kept : (t : ℕ) (rows : List Row) → AllByRecursion (Kept t) rows → AllByRecursion (Kept (suc t)) (map (passed (suc t)) rows)
 passed_kept t rows kept = All-map (Kept (suc t)) (passed (suc t)) rows (All-weaker (Kept t) (λ row. Kept (suc t) (passed (suc t) row)) (λ row is. (passes t row is).kept) rows kept)
 
-pub passed_keeps : (u : ℕ) (rows after : List Row) → after ≡ map (passed u) rows → (t : ℕ) → u ≡ suc t → All (Kept t) rows → All (Kept (suc t)) after
-passed_keeps u rows after is t next kept = subst (All (Kept (suc t))) (sym (is ∙ ap (λ (n : ℕ). map (passed n) rows) next)) (passed_kept t rows kept)
+pub passed_keeps : (u : ℕ) (rows after : List Row) → after ≡ map (passed u) rows → (t : ℕ) → u ≡ suc t → AllByRecursion (Kept t) rows → AllByRecursion (Kept (suc t)) after
+passed_keeps u rows after is t next kept = subst (AllByRecursion (Kept (suc t))) (sym (is ∙ ap (λ (n : ℕ). map (passed n) rows) next)) (passed_kept t rows kept)

@@ -1,6 +1,6 @@
 -- Who pays in a tick, and that nothing urgent is passed over.
 use Rattle.std.proofs.Common.{◌≡◌, ℕ, suc, ◌<◌, ◌≤◌, Bool, true, false, cond, eqb, ltb, leb, List, [], ◌∷◌, length, get_or, is_some, Some, None, Option, sym, refl, ap, ◌∙◌, subst, ⊎_elim, le_refl, arith}
-use Rattle.std.specs.List.{AllByRecursion as All}
+use Rattle.std.specs.List.{AllByRecursion}
 use Rattle.std.proofs.ByRecursion.{All-get_or, All-from_get_or, All-weaker}
 use Rattle.std.proofs.lemmas.Bool.{cases_lt, cases_eq, both_ways, and_parts, and_from, le-leb, lt-ltb, leb-true, ltb-true, eq-eqb, false≢true}
 use Rattle.earliest.specs.Earliest.{ComesFirst, IsEarliest}
@@ -62,11 +62,11 @@ own_some row some = rw (lt-ltb 0 row.account.capacity some) refl
 abbrev FromRow : ℕ → ℕ → List Row → Offer → Type 0
 FromRow t D rows offer = (q : ℕ) × (q < length rows) × Robbed t D (at rows q) (charged_for Stolen t (at rows q)) offer
 
-offers_from : (t D : ℕ) (rows : List Row) → All (Kept t) rows → All (FromRow t D rows) (offers_to t D rows)
+offers_from : (t D : ℕ) (rows : List Row) → AllByRecursion (Kept t) rows → AllByRecursion (FromRow t D rows) (offers_to t D rows)
 offers_from t D [] _ = tt
 offers_from t D (row ∷ rows) (kept, others) = joins (offer_of t D row) refl (All-weaker (FromRow t D rows) (FromRow t D (row ∷ rows)) (λ offer from. (suc from.0, omega (arith, from.1), from.2)) (offers_to t D rows) (offers_from t D rows others))
   where
-    joins : (o : Option Offer) → offer_of t D row ≡ o → All (FromRow t D (row ∷ rows)) (offers_to t D rows) → All (FromRow t D (row ∷ rows)) (join_offer o (offers_to t D rows))
+    joins : (o : Option Offer) → offer_of t D row ≡ o → AllByRecursion (FromRow t D (row ∷ rows)) (offers_to t D rows) → AllByRecursion (FromRow t D (row ∷ rows)) (join_offer o (offers_to t D rows))
     joins None is rest = rest
     joins (Some offer) is rest = ((0, omega arith, robbed t D row offer kept is), rest)
 
@@ -94,12 +94,12 @@ pub record FairPay (t : ℕ) (rows : List Row) (runner : Option ℕ) (payment : 
   pub e : ℕ
   pub inside : payment.payer < length rows
   pub pays : Pays t e (at rows payment.payer) (charged_for payment.source t (at rows payment.payer))
-  pub calm : (X : ℕ) → X < e → All (Quiet X) rows
+  pub calm : (X : ℕ) → X < e → AllByRecursion (Quiet X) rows
   pub able : CanPay payment.source (is_runner runner payment.payer) t (at rows payment.payer)
   pub soon : BeforeRunner runner rows (charged_for payment.source t (at rows payment.payer)).account.deadline
 
 abbrev pub Fair : ℕ → List Row → Option ℕ → Option Payment → Type 0
-Fair t rows runner None = (X : ℕ) → All (Quiet X) rows
+Fair t rows runner None = (X : ℕ) → AllByRecursion (Quiet X) rows
 Fair t rows runner (Some payment) = FairPay t rows runner payment
 
 -- a payment that is fair if somebody pays
@@ -126,7 +126,7 @@ module _ (choice : Choice) (t : ℕ) (rows : List Row) (inside : Inside choice) 
   SupplyAfter X i = supplies (at rows i) ≡ true → X < (at rows i).account.deadline
 
   -- then all is quiet
-  all_quiet : (X : ℕ) → ((i : ℕ) → i < length rows → WorkAfter X i) → ((i : ℕ) → i < length rows → SupplyAfter X i) → All (Quiet X) rows
+  all_quiet : (X : ℕ) → ((i : ℕ) → i < length rows → WorkAfter X i) → ((i : ℕ) → i < length rows → SupplyAfter X i) → AllByRecursion (Quiet X) rows
   all_quiet X work supply = All-from_get_or (Quiet X) rows blank_row (λ i h. quiet_from t X (at rows i) (kept_at i h) (work i h) (supply i h))
 
   -- a row at work with a capacity of its own can run
@@ -137,10 +137,10 @@ module _ (choice : Choice) (t : ℕ) (rows : List Row) (inside : Inside choice) 
       (some_later (from_residual (earliest_row (supplies_by row.account.deadline) rows)) (or_else (from_own row) theft) (some_first (from_own row) theft (own_some row some)))
 
   -- idle time
-  nobody : All (λ row. can_run choice t rows row ≡ false) rows → (X i : ℕ) → i < length rows → WorkAfter X i
+  nobody : AllByRecursion (λ row. can_run choice t rows row ≡ false) rows → (X i : ℕ) → i < length rows → WorkAfter X i
   nobody still X i h work some = absurd (both_ways (can_run choice t rows (at rows i)) (All-get_or (λ row. can_run choice t rows row ≡ false) rows i blank_row h still) (can_run_lem (at rows i) work some))
 
-  fair_idle : All (λ row. can_run choice t rows row ≡ false) rows → (o : Option ℕ) → Earliest supplies rows o → Fair t rows None (idle_payment o)
+  fair_idle : AllByRecursion (λ row. can_run choice t rows row ≡ false) rows → (o : Option ℕ) → Earliest supplies rows o → Fair t rows None (idle_payment o)
   fair_idle still None none = λ X. all_quiet X (nobody still X) (λ i h s. absurd (both_ways (supplies (at rows i)) (All-get_or (λ row. supplies row ≡ false) rows i blank_row h none) s))
   fair_idle still (Some p) first =
       record {
@@ -186,8 +186,8 @@ module _ (choice : Choice) (t : ℕ) (rows : List Row) (inside : Inside choice) 
           soon = soon;
         }
 
-    module _ (dry : All (λ row. supplies_by D row ≡ false) rows) where
-      calm_late : (X : ℕ) → X < D → All (Quiet X) rows
+    module _ (dry : AllByRecursion (λ row. supplies_by D row ≡ false) rows) where
+      calm_late : (X : ℕ) → X < D → AllByRecursion (Quiet X) rows
       calm_late X h =
           all_quiet X (λ i g work some. omega (arith, workers i g work some))
           (λ i g s. supplies_by_lem X i h s (λ part. absurd (both_ways (supplies_by D (at rows i)) (All-get_or (λ row. supplies_by D row ≡ false) rows i blank_row g dry) part)))
@@ -204,7 +204,7 @@ module _ (choice : Choice) (t : ℕ) (rows : List Row) (inside : Inside choice) 
           subst (λ (n : ℕ). FairPay t rows (Some k) (record { payer = n; source = Stolen })) (sym (from.server ∙ sound.placed q within))
           (record { e = offer.deadline; inside = within; pays = from.pays; calm = λ X h. calm_late X (omega (arith, from.in_time)); able = from.able; soon = omega (arith, from.due, from.in_time) })
 
-      fair_theft : (thief : ℕ) (offers : List Offer) → All (FromRow t D rows) offers → FairIfSome t rows (Some k) (from_theft choice thief offers)
+      fair_theft : (thief : ℕ) (offers : List Offer) → AllByRecursion (FromRow t D rows) offers → FairIfSome t rows (Some k) (from_theft choice thief offers)
       fair_theft thief [] _ e = absurd (false≢true e)
       fair_theft thief (offer ∷ offers) from e = chosen (choice thief (offer ∷ offers)) refl e
         where

@@ -2,7 +2,7 @@
 use Rattle.std.proofs.Common.{◌≡◌, ℕ, suc, ◌+◌, ◌*◌, ◌/◌, ◌%◌, ◌<◌, ◌≤◌, Bool, true, false, cond, ◌&&◌, eqb, leb, List, [], ◌∷◌, map, length, get_or, Some, None, sum_by, Option, sym, refl, ap, ◌∙◌, subst, ⊎_elim, mul-le-mul_right, one-mul, mul-zero, arith, length-set, get_or-set_other, get_or-set_same}
 use native.Mathlib.Nat.{div-add-mod}
 use lib.Seq.{map-set_same}
-use Rattle.std.specs.List.{AllByRecursion as All}
+use Rattle.std.specs.List.{AllByRecursion}
 use Rattle.std.proofs.lemmas.List.{get_or-map}
 use Rattle.std.proofs.lemmas.List.Sums.{sum_by-cons}
 use Rattle.std.proofs.lemmas.Bool.{cond_both, cond-true, cond-false, cases_eq, cases_lt, eq-eqb, ne_eqb}
@@ -153,7 +153,7 @@ weighs H q p some budget divides =
     none : (m : ℕ) → m ≡ 0 → p * m + H % p ≡ H → ⊥
     none m e whole = omega (arith, ap (λ (n : ℕ). p * n) e, mul-zero p)
 
-weighed : (t : ℕ) (rows : List Row) → All (Kept t) rows → length rows ≤ sum_by (λ (row : Row). weight_of row.terms) rows
+weighed : (t : ℕ) (rows : List Row) → AllByRecursion (Kept t) rows → length rows ≤ sum_by (λ (row : Row). weight_of row.terms) rows
 weighed t [] _ = omega arith
 weighed t (row ∷ rows) (kept, others) =
     rw (sum_by-cons (λ (row : Row). weight_of row.terms) row rows)

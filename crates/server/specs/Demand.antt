@@ -1,6 +1,6 @@
 -- The demand bound: what every row may still be charged, up to any horizon, fits the ticks that are left.
 use Rattle.std.specs.Prelude.{◌≡◌, ℕ, suc, ◌+◌, ◌-◌, ◌*◌, ◌/◌, ◌%◌, ◌<◌, ◌≤◌, Bool, cond, List, length, Some, sum_by, nat_le, slice_index_or}
-use Rattle.std.specs.List.{AllByRecursion as All}
+use Rattle.std.specs.List.{AllByRecursion}
 use Rattle.plan.specs.declared.terms.Kind.TheVariants.{Isolated}
 use Rattle.plan.specs.declared.terms.Terms.{Terms}
 use Rattle.plan.specs.Terms.{common_multiple, weight_of}
@@ -43,7 +43,7 @@ pub record Kept (t : ℕ) (row : Row) : Type 0 where
 -- what every table keeps at instant t: rows in their places, their limits, and the bound for every horizon
 pub record Sound (t : ℕ) (rows : List Row) : Type 0 where
   pub placed : (k : ℕ) → k < length rows → (slice_index_or rows k blank_row).number ≡ k
-  pub kept : All (Kept t) rows
+  pub kept : AllByRecursion (Kept t) rows
   pub light : sum_by (λ (row : Row). weight_of row.terms) rows ≤ common_multiple
   pub bound : (horizon : ℕ) → t ≤ horizon → sum_by (demand t horizon) rows ≤ horizon - t
 
@@ -60,7 +60,7 @@ TickKeepsTheBound = (choice : Choice) (t : ℕ) (finished : Bool) (rows : List R
 
 -- the rows of terms within their limits, which weigh no more than the common multiple, make a table that keeps it
 abbrev pub FreshTableKeepsTheBound : Type 0
-FreshTableKeepsTheBound = (terms : List Terms) → All Fit terms → sum_by weight_of terms ≤ common_multiple → Sound 0 (fresh_rows 0 terms)
+FreshTableKeepsTheBound = (terms : List Terms) → AllByRecursion Fit terms → sum_by weight_of terms ≤ common_multiple → Sound 0 (fresh_rows 0 terms)
 
 -- a row at work, or one that supplies, has nothing left where its deadline has come
 abbrev pub SpentIn : Phase → ℕ → Row → Type 0
@@ -69,4 +69,4 @@ SpentIn AtWork t row = row.account.deadline ≡ t → (row.account.capacity ≡ 
 SpentIn Supplying t row = row.account.deadline ≡ t → (row.account.capacity ≡ 0) × (row.account.residual ≡ 0)
 
 abbrev pub NothingIsLeftAtADeadline : Type 0
-NothingIsLeftAtADeadline = (choice : Choice) (t : ℕ) (finished : Bool) (rows : List Row) → Inside choice → Sound t rows → All (λ row. SpentIn row.phase (suc t) row) (settled choice t finished rows)
+NothingIsLeftAtADeadline = (choice : Choice) (t : ℕ) (finished : Bool) (rows : List Row) → Inside choice → Sound t rows → AllByRecursion (λ row. SpentIn row.phase (suc t) row) (settled choice t finished rows)

@@ -1,6 +1,6 @@
 // What changes a table: one row at a time is taken, changed and written back, and every other row stays.
 ghost use Rattle.std.specs.Prelude.{◌≡◌, ℕ, suc, map, slice_index_or};
-ghost use Rattle.std.specs.List.{AllByRecursion as All};
+ghost use Rattle.std.specs.List.{AllByRecursion};
 ghost use Rattle.plan.specs.declared.terms.Kind.TheVariants.{NonIsolated};
 ghost use Rattle.server.specs.Row.{happens};
 ghost use Rattle.server.specs.Tick.{changed, charged_for, passed};
@@ -19,7 +19,7 @@ impl Table {
     /// What an event does to the row of a server, if there is one of this number.
     pub fn happens(&mut self, event: Event, at: Instant, server: u16)
         ensures rows { table_rows self.new ≡ changed (happens event at.ticks) server (table_rows self.old) }
-        ensures kept { All (Kept at.ticks) (table_rows self.old) → All (Kept at.ticks) (table_rows self.new) }
+        ensures kept { AllByRecursion (Kept at.ticks) (table_rows self.old) → AllByRecursion (Kept at.ticks) (table_rows self.new) }
         ensures bound { event ≡ Arrival → Sound at.ticks (table_rows self.old) → Sound at.ticks (table_rows self.new) }
     {
         let place = server as usize;
@@ -33,7 +33,7 @@ impl Table {
     /// Charges a tick to the payer's row.
     pub fn pay(&mut self, payment: Payment, at: Instant)
         ensures rows { table_rows self.new ≡ changed (charged_for payment.source at.ticks) payment.payer (table_rows self.old) }
-        ensures kept { (payment.source ≡ Stolen → (slice_index_or (table_rows self.old) payment.payer blank_row).terms.kind ≡ NonIsolated) → All (Kept at.ticks) (table_rows self.old) → All (Kept at.ticks) (table_rows self.new) }
+        ensures kept { (payment.source ≡ Stolen → (slice_index_or (table_rows self.old) payment.payer blank_row).terms.kind ≡ NonIsolated) → AllByRecursion (Kept at.ticks) (table_rows self.old) → AllByRecursion (Kept at.ticks) (table_rows self.new) }
     {
         let place = payment.payer as usize;
         if place < self.count {
@@ -46,7 +46,7 @@ impl Table {
     /// All rows as the clock comes to an instant: each deadline that has come, and then the cuts.
     pub fn pass(&mut self, at: Instant)
         ensures rows { table_rows self.new ≡ map (passed at.ticks) (table_rows self.old) }
-        ensures kept { (t : ℕ) → at.ticks ≡ suc t → All (Kept t) (table_rows self.old) → All (Kept (suc t)) (table_rows self.new) }
+        ensures kept { (t : ℕ) → at.ticks ≡ suc t → AllByRecursion (Kept t) (table_rows self.old) → AllByRecursion (Kept (suc t)) (table_rows self.new) }
     {
         pass_all(&mut self.rows[0..self.count], at);
     }
