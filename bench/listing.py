@@ -2,7 +2,7 @@
 
     python3 bench/listing.py [ROUNDS]
 
-Needs target/bin/durashem (rt check durashem) and rustc. The two run in turn, ROUNDS times (5, if not named), on a flight of a million
+Needs crates/durashem/out/durashem (./fly builds it) and rustc. The two run in turn, ROUNDS times (5, if not named), on a flight of a million
 ticks under light load and on one of half a million with 32 servers in overload; the output of both is compared byte by byte first. Printed are the user times and
 their ratio: the median, the least and the greatest.
 """
@@ -53,7 +53,7 @@ def user_time(program, folder, out):
 
 def main():
     rounds = int(sys.argv[1]) if len(sys.argv) > 1 else 5
-    ours = os.path.join(ROOT, 'target', 'bin', 'durashem')
+    ours = os.path.join(ROOT, 'crates', 'durashem', 'out', 'durashem')
     folder = tempfile.mkdtemp(prefix='durashem-bench-')
     plain = os.path.join(folder, 'listing')
     subprocess.run(['rustc', '-O', '--edition', '2021', '-o', plain, os.path.join(HERE, 'listing.rs')], check=True)

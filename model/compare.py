@@ -2,7 +2,7 @@
 
     python3 compare.py PROGRAM [FIRST [COUNT]]
 
-PROGRAM is target/bin/durashem. The flights of the seeds FIRST, FIRST + 1, .. are flown (1 and 200, if they are not named); most are short,
+PROGRAM is crates/durashem/out/durashem. The flights of the seeds FIRST, FIRST + 1, .. are flown (1 and 200, if they are not named); most are short,
 and one in fifty has some thousand ticks. Each difference is told with its seed; its files stay in the folder that is named. At the end a
 summary says how many flights and lines were compared.
 """

@@ -11,6 +11,7 @@ use records::read_plan;
 use std::env;
 use std::fs::File;
 use std::io::Read;
+use std::process::ExitCode;
 
 const USAGE: &str = "usage:
   durashem [PLAN TRACE] [--rule RULE]   fly TRACE on the executive of PLAN, and list every tick
@@ -172,10 +173,19 @@ fn run(rt: &HostRuntime, words: &[String]) -> anyhow::Result<()> {
     fly_words(rt, words, RuleName::Earliest)
 }
 
-fn main(rt: HostRuntime) -> anyhow::Result<()> {
-    let words: Vec<String> = env::args(&rt)?.collect(rt.alloc())?;
+/// Does what the command line asks for. Its first word is the program's own.
+fn run_words(rt: &HostRuntime) -> anyhow::Result<()> {
+    let words: Vec<String> = env::args(rt)?.collect(rt.alloc())?;
     if words.len() == 0 {
-        return run(&rt, words.as_slice());
+        return run(rt, words.as_slice());
     }
-    run(&rt, &words.as_slice()[1..])
+    run(rt, &words.as_slice()[1..])
+}
+
+/// Ends with status 1 after a failure. What it was has been said by then.
+fn main(rt: HostRuntime) -> ExitCode {
+    match run_words(&rt) {
+        Ok(()) => ExitCode::SUCCESS,
+        Err(_) => ExitCode::FAILURE,
+    }
 }

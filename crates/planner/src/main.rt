@@ -9,6 +9,7 @@ use records::writing::MOST_PLAN_BYTES;
 use records::{read_plan, write_plan};
 use std::fs::File;
 use std::io::Read;
+use std::process::ExitCode;
 use std::{env, fs};
 
 const USAGE: &str = "usage:
@@ -128,7 +129,16 @@ fn run(rt: &HostRuntime, words: &[String]) -> anyhow::Result<()> {
     fail(rt, USAGE)
 }
 
-fn main(rt: HostRuntime) -> anyhow::Result<()> {
-    let words: Vec<String> = env::args(&rt)?.collect(rt.alloc())?;
-    run(&rt, words.as_slice())
+/// Does what the command line asks for.
+fn run_words(rt: &HostRuntime) -> anyhow::Result<()> {
+    let words: Vec<String> = env::args(rt)?.collect(rt.alloc())?;
+    run(rt, words.as_slice())
+}
+
+/// Ends with status 1 after a failure. What it was has been said by then.
+fn main(rt: HostRuntime) -> ExitCode {
+    match run_words(&rt) {
+        Ok(()) => ExitCode::SUCCESS,
+        Err(_) => ExitCode::FAILURE,
+    }
 }
