@@ -135,7 +135,7 @@ fn run_words(rt: &HostRuntime) -> anyhow::Result<()> {
     run(rt, words.as_slice())
 }
 
-/// Ends with status 1 after a failure. What it was has been said by then.
+/// Ends with status 1 after a failure. What is wrong with the command line, a file or what it holds has been said by then.
 fn main(rt: HostRuntime) -> ExitCode {
     match run_words(&rt) {
         Ok(()) => ExitCode::SUCCESS,

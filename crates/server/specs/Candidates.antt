@@ -5,4 +5,4 @@ use Rattle.server.specs.declared.turn.running.Candidate.{Candidate}
 use Rattle.server.specs.Turn.{Choice, can_run}
 
 abbrev pub candidate : Choice → ℕ → List Row → Row → Candidate
-candidate choice t rows row = record { deadline = row.account.deadline; number = row.number; can_run = can_run choice t rows row }
+candidate choice t rows row = record { deadline = row.account.deadline; number = row.number; able = can_run choice t rows row }

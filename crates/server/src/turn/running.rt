@@ -16,7 +16,7 @@ use plan::table::MOST_ROWS;
 pub struct Candidate {
     deadline: u32,
     number: u16,
-    can_run: bool,
+    able: bool,
 }
 
 /// The runner is the earliest candidate of those that can run.
@@ -27,7 +27,7 @@ impl Contender for Candidate {
 
     ghost number = { λ c. c.number };
 
-    ghost takes = { λ _ c. c.can_run };
+    ghost takes = { λ _ c. c.able };
 
     fn deadline(&self) -> u32 {
         self.deadline
@@ -38,7 +38,7 @@ impl Contender for Candidate {
     }
 
     fn takes_part(&self, _ask: ()) -> bool {
-        self.can_run
+        self.able
     }
 }
 
@@ -57,7 +57,7 @@ fn candidate_of<R: DonorRule>(rule: &R, at: Instant, rows: &[Row], row: &Row) ->
     Candidate {
         deadline: row.account.deadline,
         number: row.number,
-        can_run: can_run(rule, at, rows, row),
+        able: can_run(rule, at, rows, row),
     }
 }
 
@@ -69,7 +69,7 @@ pub(crate) fn runner_of<R: DonorRule>(rule: &R, at: Instant, rows: &[Row]) -> Op
     let nobody = Candidate {
         deadline: 0,
         number: 0,
-        can_run: false,
+        able: false,
     };
     let mut candidates = [nobody; MOST_ROWS];
     for k in 0..rows.len() {

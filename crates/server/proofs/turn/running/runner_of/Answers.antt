@@ -27,6 +27,6 @@ returns g c =
     let made = candidate (g.R.DonorRule.choice c.args.rule.now c.args.at.ticks) c.args.at.ticks rows in
     let last : length rows - 0 ≡ c.loop-k.k = omega arith in
     c.earliest.ensures.value
-    ∙ ap (λ (xs : List Candidate). earliest_of (λ (x : Candidate). x.deadline) (λ (x : Candidate). x.number) (λ (x : Candidate). x.can_run) xs)
+    ∙ ap (λ (xs : List Candidate). earliest_of (λ (x : Candidate). x.deadline) (λ (x : Candidate). x.number) (λ (x : Candidate). x.able) xs)
     (ap (λ (n : ℕ). take n c.loop-k.candidates) last ∙ c.loop-k.invariant.1 ∙ ap (map made) (take_all c.loop-k.k rows (omega arith)))
-    ∙ earliest_of_made (λ (x : Candidate). x.deadline) (λ (x : Candidate). x.number) (λ (x : Candidate). x.can_run) made rows
+    ∙ earliest_of_made (λ (x : Candidate). x.deadline) (λ (x : Candidate). x.number) (λ (x : Candidate). x.able) made rows
