@@ -8,5 +8,5 @@ pub mod writing;
 
 pub use fault::BitsFault;
 pub use place::{Place, Width};
-pub use reading::read_field;
+pub use reading::{FieldReader, read_field};
 pub use writing::write_field;

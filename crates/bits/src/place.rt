@@ -6,6 +6,7 @@ mod moves;
 /// How many bits the longest field has.
 pub const MOST_BITS: u8 = 32;
 
+// No model, and a word for the count of bits before it: the fields are public, and callers name them.
 /// The place of a bit: a byte, and a bit in it, 0 the most significant. One count of bits could
 /// pass the largest `usize`; these two cannot.
 #[derive(Clone, Copy, PartialEq, Eq, Debug)]

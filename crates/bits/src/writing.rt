@@ -1,4 +1,5 @@
-// Writing a field, bit by bit.
+// Writing a field, bit by bit. The bytes and the place stay two arguments, unlike a reader's: a writer that
+// held both would keep the caller's bytes to itself, and each clause would have to say what becomes of them.
 ghost use Rattle.std.specs.Prelude.{◌≡◌, ℕ, ◌+◌, ◌-◌, ◌*◌, ◌%◌, ◌^◌, ◌<◌, ◌≤◌, ◌⊎◌, length, OnOk};
 ghost use Rattle.bits.specs.Fields.{bits_before, bit_at, field_at, byte_with, put_field, field_written, bytes_after, place_after};
 
@@ -9,6 +10,7 @@ use crate::reading::bit_of;
 /// Writes the low bits of a value as the field of this width at this place, and moves the place behind
 /// it: the field then reads back as those bits, and no other bit has changed. Where fewer bits are
 /// left, it refuses, and leaves the bytes and the place.
+#[tactic(auto, using(crate::proofs::Written::put_field_made, crate::proofs::Written::put_field_kept))]
 pub fn write_field(
     bytes: &mut [u8],
     at: &mut Place,
@@ -30,10 +32,12 @@ pub fn write_field(
 }
 
 // Writes a field that the bytes have room for.
+#[tactic(auto, using(crate::proofs::Written::put_field_more))]
 fn put_field(bytes: &mut [u8], at: Place, width: Width, value: u32)
     requires { bits_before at + width.bits ≤ 8 * length bytes.old }
     ensures { bytes.new ≡ put_field bytes.old (bits_before at) width.bits value }
 {
+    // Bits have no list to go over: `k` is the number of a bit, and no index.
     for k in 0..width.bits {
         let bit = at.bit + k;
         let byte = at.byte + (bit / 8) as usize;
@@ -43,6 +47,7 @@ fn put_field(bytes: &mut [u8], at: Place, width: Width, value: u32)
 }
 
 // A byte with bit `k`, 0 the most significant, made `digit`.
+#[tactic(auto, using(crate::proofs::Bytes::byte_parts, crate::proofs::Bytes::byte_lt))]
 fn byte_with(byte: u8, k: u8, digit: u8) -> u8
     requires { (k < 8) × (digit < 2) }
     ensures { result ≡ byte_with byte k digit }

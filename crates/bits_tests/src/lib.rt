@@ -4,6 +4,7 @@
 #[cfg(test)]
 mod tests {
     use bits::{BitsFault, Place, Width, read_field, write_field};
+    use faults::Fault;
     use std::process::Abort;
     use std::test::Fail;
 
@@ -19,19 +20,14 @@ mod tests {
     ];
 
     fn width_of(bits: u8) -> Result<Width, Fail> {
-        match Width::new(bits) {
-            Some(width) => Ok(width),
-            None => Err(Fail::new("there is no such width")),
-        }
+        Width::new(bits).ok_or_else(|| Fail::new("there is no such width"))
     }
 
     // the value of so many bits from this one on, by the table
     fn by_table(start: usize, bits: usize) -> u32 {
         let mut value: u32 = 0;
-        for (k, bit) in BITS.iter().enumerate() {
-            if k >= start && k < start.saturating_add(bits) {
-                value = value.wrapping_mul(2).wrapping_add(u32::from(*bit));
-            }
+        for bit in BITS.iter().skip(start).take(bits) {
+            value = value.wrapping_mul(2).wrapping_add(u32::from(*bit));
         }
         value
     }
@@ -80,6 +76,7 @@ mod tests {
         };
         let start = 8 + (bit % 8) as usize;
         assert_eq!(rt; write_field(&mut bytes, &mut at, width, value), Ok(()));
+        // the bits of a byte are no list
         for k in 0..40usize {
             let found = u32::from(bytes[k / 8] >> (7 - k % 8)) % 2;
             assert_eq!(rt; found, expected_bit(k, start, bits as usize, value, fill));

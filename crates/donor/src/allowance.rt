@@ -27,13 +27,13 @@ impl<R> Allowance<R> {
             below,
         }
     }
-}
 
-// Whether a thief that is counted has reached the limit.
-fn at_limit(limit: u16, tally: &Tally, instant: u32, thief: u16) -> bool
-    ensures { result ≡ at_limit limit tally.now instant thief }
-{
-    (thief as usize) < COUNTED_SERVERS && limit <= tally.count(instant, thief)
+    // Whether a thief that is counted has reached the limit.
+    fn at_limit(&self, instant: u32, thief: u16) -> bool
+        ensures { result ≡ at_limit self.now.limit self.now.tally instant thief }
+    {
+        (thief as usize) < COUNTED_SERVERS && self.limit <= self.tally.count(instant, thief)
+    }
 }
 
 impl<R: DonorRule> DonorRule for Allowance<R> {
@@ -52,13 +52,14 @@ impl<R: DonorRule> DonorRule for Allowance<R> {
         ensures below_limit { count_at self.now.tally instant thief < self.now.limit → result ≡ R.DonorRule.choice self.now.below instant thief offers.now }
         ensures not_counted { counted_servers ≤ thief → result ≡ R.DonorRule.choice self.now.below instant thief offers.now }
     {
-        if at_limit(self.limit, &self.tally, instant, thief) {
+        if self.at_limit(instant, thief) {
             return None;
         }
         self.below.choose(instant, thief, offers)
     }
 
     // After a step in a new frame only this thief has a count, and it is 1.
+    #[tactic(auto, using(crate::specs::Counts::first_in_frame))]
     fn charged(&mut self, instant: u32, thief: u16, payer: u16)
         ensures value { self.new ≡ allowance_step R.DonorRule.step self.old instant thief payer }
         ensures new_frame { (self.old.tally.frame ≢ frame_of instant) → thief < counted_servers → (k : ℕ) → count_at self.new.tally instant k ≡ (if nat_eq k thief then 1 else 0) }

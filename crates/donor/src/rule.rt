@@ -20,6 +20,7 @@ pub trait DonorRule {
     fn choose(&self, instant: u32, thief: u16, offers: &[Offer]) -> Option<usize>
         ensures { result ≡ choice self.now instant thief offers.now };
 
+    // No body here for rules that remember nothing: a step of their own is what each must name.
     /// Told that the thief ran this tick on the payer's capacity.
     fn charged(&mut self, instant: u32, thief: u16, payer: u16)
         ensures { self.new ≡ step self.old instant thief payer };

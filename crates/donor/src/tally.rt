@@ -1,5 +1,5 @@
 // Counting stolen ticks in a frame.
-ghost use Rattle.std.specs.Prelude.{◌≡◌, ◌+◌, replicate, slice_index};
+ghost use Rattle.std.specs.Prelude.{◌≡◌, ◌+◌, replicate};
 ghost use Rattle.donor.specs.Tally.{frame_of, count_at, counted_once, noted};
 
 /// How many ticks a frame has. Counts are kept within a frame.
@@ -21,22 +21,12 @@ fn frame_of(instant: u32) -> u32
     instant / FRAME_TICKS
 }
 
-// A server's count; one that is not counted has none.
-fn count_in(counts: &[u16; COUNTED_SERVERS], server: u16) -> u16
-    ensures { result ≡ slice_index counts.now server }
-{
-    let place = server as usize;
-    if place < COUNTED_SERVERS {
-        counts[place]
-    } else {
-        0
-    }
-}
-
 // One more for a server; one that is not counted changes nothing.
+#[tactic(auto, using(std::proofs::lemmas::List::set_past))]
 fn count_once(counts: &mut [u16; COUNTED_SERVERS], server: u16)
     ensures { counts.new ≡ counted_once counts.old server }
 {
+    // Not by `get_mut`, whose contract at an array says nothing of the elements afterwards.
     let place = server as usize;
     if place < COUNTED_SERVERS {
         counts[place] = counts[place].saturating_add(1);
@@ -56,14 +46,14 @@ impl Tally {
 
     /// A server's count at this instant: zero in another frame than that of the last tick noted, and for a
     /// server that is not counted.
+    #[tactic(auto, using(crate::specs::Counts::other_frame))]
     pub fn count(&self, instant: u32, server: u16) -> u16
         ensures { result ≡ count_at self.now instant server }
     {
-        if self.frame == frame_of(instant) {
-            count_in(&self.counts, server)
-        } else {
-            0
+        if self.frame != frame_of(instant) {
+            return 0;
         }
+        self.counts.get(server as usize).copied().unwrap_or(0)
     }
 
     /// Counts a stolen tick. In another frame than before, all counts are cleared first.

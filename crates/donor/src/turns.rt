@@ -1,5 +1,5 @@
 // The rule that takes turns.
-ghost use Rattle.std.specs.Prelude.{◌≡◌, Some, None};
+ghost use Rattle.std.specs.Prelude.{◌≡◌, None};
 ghost use Rattle.donor.specs.Rules.{first_above, first_of, turns_choice, turns_step};
 ghost use Rattle.donor.specs.Above.{turns_inside};
 
@@ -31,10 +31,9 @@ impl DonorRule for Turns {
     ghost inside = { λ rule instant thief offers k chosen. turns_inside rule.last offers k chosen };
 
     fn choose(&self, _instant: u32, _thief: u16, offers: &[Offer]) -> Option<usize> {
-        match self.last {
-            None => first_of(offers),
-            Some(payer) => after(payer, offers),
-        }
+        self.last
+            .and_then(|payer| first_above(payer, offers))
+            .or(first_of(offers))
     }
 
     fn charged(&mut self, _instant: u32, _thief: u16, payer: u16) {
@@ -42,20 +41,11 @@ impl DonorRule for Turns {
     }
 }
 
-// The first offer numbered above the payer, else the first offer.
-fn after(payer: u16, offers: &[Offer]) -> Option<usize>
-    ensures { result ≡ turns_choice (Some payer) offers.now }
-{
-    match first_above(payer, offers) {
-        None => first_of(offers),
-        Some(k) => Some(k),
-    }
-}
-
 // The position of the first offer numbered above a server.
 fn first_above(server: u16, offers: &[Offer]) -> Option<usize>
     ensures { result ≡ first_above server 0 offers.now }
 {
+    // A loop, and not `position`: a rule of the project asks for the loop over the offers and their places.
     for (k, offer) in offers.iter().enumerate() {
         if offer.server > server {
             return Some(k);
@@ -68,5 +58,5 @@ fn first_above(server: u16, offers: &[Offer]) -> Option<usize>
 fn first_of(offers: &[Offer]) -> Option<usize>
     ensures { result ≡ first_of offers.now }
 {
-    if offers.is_empty() { None } else { Some(0) }
+    (!offers.is_empty()).then_some(0)
 }

@@ -52,10 +52,12 @@ fn step<R: DonorRule>(rt: &HostRuntime, rule: &mut R, instant: u32) -> io::Resul
 
 fn main(rt: HostRuntime) -> io::Result<()> {
     println!(rt; "server {THIEF} is overloaded and may steal from")?;
-    for offer in OFFERS.iter() {
-        let server = offer.server;
-        let deadline = offer.deadline;
-        let capacity = offer.capacity;
+    for offer in &OFFERS {
+        let Offer {
+            server,
+            deadline,
+            capacity,
+        } = *offer;
         println!(rt; "  server {server}, due at {deadline}, with {capacity} ticks")?;
     }
     println!(rt; "who pays in ticks 0 to 5, by rule:")?;

@@ -5,13 +5,14 @@
 use anyhow::anyhow;
 use donor::{Allowance, DonorRule, EarliestFirst, Nobody, Turns};
 use executive::Executive;
-use flight::{Listing, fault_line, header, plan_fault_line, play};
+use flight::{Listing, fault_line, header, play};
 use plan::Plan;
 use records::read_plan;
-use std::env;
+use std::fmt::Display;
 use std::fs::File;
 use std::io::Read;
 use std::process::ExitCode;
+use std::{env, io};
 
 const USAGE: &str = "usage:
   durashem [PLAN TRACE] [--rule RULE]   fly TRACE on the executive of PLAN, and list every tick
@@ -33,6 +34,7 @@ r residual, s stolen, i idle, e empty; - is nobody. A fault ends the listing wit
 /// The most that is read of a file.
 const MOST_BYTES: u64 = 65_536;
 
+// Not shared with `flights`, which reads packed letters: the variants and the arms below are all that both would have.
 /// A donor rule, as it is named on the command line.
 #[derive(Clone, Copy)]
 enum RuleName {
@@ -42,27 +44,31 @@ enum RuleName {
     Allowance(u16),
 }
 
+// `fail`, `first_bytes`, `run_words` and `main` are much like the planner's, but a library for so few lines would be longer than they are.
 /// Says what is wrong on standard error, and ends the program with status 1.
-fn fail<T>(rt: &HostRuntime, why: &str) -> anyhow::Result<T> {
+fn fail<T, W: Display + Drop>(rt: &HostRuntime, why: W) -> anyhow::Result<T> {
     eprintln!(rt; "{why}")?;
     Err(anyhow!("the flight was not flown to its end"))
 }
 
-/// At most so many bytes of a file; none, if it cannot be read.
-fn bytes_of(rt: &HostRuntime, path: &str) -> anyhow::Result<Vec<u8>> {
+/// The first bytes of a file, no more than are read of one.
+fn first_bytes(rt: &HostRuntime, path: &str) -> io::Result<Vec<u8>> {
     let mut bytes = Vec::new(rt.alloc());
-    let file = match File::open(rt, path) {
-        Ok(file) => file,
+    File::open(rt, path)?
+        .take(MOST_BYTES)
+        .read_to_end(&mut bytes)?;
+    Ok(bytes)
+}
+
+/// The first bytes of a file; none, if it cannot be read.
+fn bytes_of(rt: &HostRuntime, path: &str) -> anyhow::Result<Vec<u8>> {
+    match first_bytes(rt, path) {
+        Ok(bytes) => Ok(bytes),
         Err(why) => {
             eprintln!(rt; "cannot read {path}, which counts as no bytes: {why}")?;
-            return Ok(bytes);
+            Ok(Vec::new(rt.alloc()))
         }
-    };
-    if let Err(why) = file.take(MOST_BYTES).read_to_end(&mut bytes) {
-        eprintln!(rt; "cannot read {path}, which counts as no bytes: {why}")?;
-        return Ok(Vec::new(rt.alloc()));
     }
-    Ok(bytes)
 }
 
 /// Flies a trace on the executive of a plan under a rule.
@@ -83,7 +89,7 @@ fn fly<R: DonorRule + Drop>(
     if let Err(fault) = ended {
         let last = fault_line(rt.alloc(), &fault)?;
         print!(rt; "{last}")?;
-        return fail(rt, fault.fault.sentence());
+        return fail(rt, fault.fault);
     }
     Ok(())
 }
@@ -98,11 +104,12 @@ fn fly_files(
     let plan_bytes = bytes_of(rt, plan_path)?;
     let mut plan = Plan::new();
     if let Err(fault) = read_plan(plan_bytes.as_slice(), &mut plan) {
-        let line = plan_fault_line(rt.alloc(), &fault)?;
+        let line = fault_line(rt.alloc(), &fault)?;
         print!(rt; "{line}")?;
-        return fail(rt, fault.fault.sentence());
+        return fail(rt, fault.fault);
     }
     let trace = bytes_of(rt, trace_path)?;
+    // By a `match`, as each rule is another type: one that names its letter by a constant can be no `dyn`.
     match rule {
         RuleName::Earliest => fly(rt, &plan, trace.as_slice(), EarliestFirst),
         RuleName::Nobody => fly(rt, &plan, trace.as_slice(), Nobody),
@@ -118,19 +125,14 @@ fn fly_files(
 
 /// The rule of this name, if there is one.
 fn rule_named(word: &str) -> Option<RuleName> {
-    if word == "E" {
-        return Some(RuleName::Earliest);
-    }
-    if word == "N" {
-        return Some(RuleName::Nobody);
-    }
-    if word == "T" {
-        return Some(RuleName::Turns);
-    }
-    let limit = word.strip_prefix("A:")?;
-    match limit.parse::<u16>() {
-        Ok(limit) => Some(RuleName::Allowance(limit)),
-        Err(_) => None,
+    match word {
+        "E" => Some(RuleName::Earliest),
+        "N" => Some(RuleName::Nobody),
+        "T" => Some(RuleName::Turns),
+        _ => {
+            let limit = word.strip_prefix("A:")?.parse::<u16>().ok()?;
+            Some(RuleName::Allowance(limit))
+        }
     }
 }
 
@@ -140,46 +142,39 @@ fn usage(rt: &HostRuntime) -> anyhow::Result<()> {
 }
 
 /// Flies the files that the words name, or the two that are flown if none is named.
-fn fly_words(rt: &HostRuntime, words: &[String], rule: RuleName) -> anyhow::Result<()> {
-    if words.len() == 0 {
-        return fly_files(rt, "plan.bin", "trace.bin", rule);
+fn fly_words(rt: &HostRuntime, words: &[&str], rule: RuleName) -> anyhow::Result<()> {
+    match words {
+        [] => fly_files(rt, "plan.bin", "trace.bin", rule),
+        [plan, trace] => fly_files(rt, plan, trace, rule),
+        _ => usage(rt),
     }
-    if words.len() == 2 {
-        return fly_files(rt, words[0].as_str(), words[1].as_str(), rule);
-    }
-    usage(rt)
 }
 
 /// Flies under the rule that is named, the files that the other words name.
-fn fly_under(rt: &HostRuntime, name: &str, files: &[String]) -> anyhow::Result<()> {
+fn fly_under(rt: &HostRuntime, name: &str, files: &[&str]) -> anyhow::Result<()> {
     match rule_named(name) {
         Some(rule) => fly_words(rt, files, rule),
         None => usage(rt),
     }
 }
 
-fn run(rt: &HostRuntime, words: &[String]) -> anyhow::Result<()> {
-    let count = words.len();
-    if count == 1 && words[0].as_str() == "help" {
-        print!(rt; "{USAGE}")?;
-        return Ok(());
+fn run(rt: &HostRuntime, words: &[&str]) -> anyhow::Result<()> {
+    match words {
+        ["help"] => {
+            print!(rt; "{USAGE}")?;
+            Ok(())
+        }
+        ["--rule", name, files @ ..] => fly_under(rt, name, files),
+        [files @ .., "--rule", name] => fly_under(rt, name, files),
+        files => fly_words(rt, files, RuleName::Earliest),
     }
-    if count >= 2 && words[0].as_str() == "--rule" {
-        return fly_under(rt, words[1].as_str(), &words[2..]);
-    }
-    if count >= 2 && words[count - 2].as_str() == "--rule" {
-        return fly_under(rt, words[count - 1].as_str(), &words[..count - 2]);
-    }
-    fly_words(rt, words, RuleName::Earliest)
 }
 
 /// Does what the command line asks for. Its first word is the program's own.
 fn run_words(rt: &HostRuntime) -> anyhow::Result<()> {
-    let words: Vec<String> = env::args(rt)?.collect(rt.alloc())?;
-    if words.len() == 0 {
-        return run(rt, words.as_slice());
-    }
-    run(rt, &words.as_slice()[1..])
+    let words: Vec<String> = env::args(rt)?.skip(1).collect(rt.alloc())?;
+    let words: Vec<&str> = words.iter().map(|word| word.as_str()).collect(rt.alloc())?;
+    run(rt, words.as_slice())
 }
 
 /// Ends with status 1 after a failure. What is wrong with the command line, a file or what it holds has been said by then.

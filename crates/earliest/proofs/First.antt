@@ -1,9 +1,9 @@
 -- The earliest so far comes first among the records so far, and one more record keeps that.
-use Rattle.std.proofs.Common.{◌≡◌, ℕ, suc, ◌+◌, ◌<◌, ◌≤◌, Bool, true, false, cond, ◌⊎◌, List, [], ◌∷◌, ◌++◌, map, length, get_or, drop, Some, None, Option, sym, refl, ap, ◌∙◌, subst, inl, inr, ⊎_elim, append_assoc, add-one, arith}
+use Rattle.std.proofs.Common.{◌≡◌, ℕ, suc, ◌+◌, ◌<◌, ◌≤◌, Bool, true, false, cond, ◌⊎◌, List, [], ◌∷◌, ◌++◌, length, get_or, drop, Some, None, Option, IfSome, sym, refl, ap, ◌∙◌, subst, inl, inr, ⊎_elim, append_assoc, add-one, arith}
 use Rattle.std.specs.List.{AllByRecursion}
 use Rattle.std.proofs.ByRecursion.{All-append, All-get_or}
-use Rattle.std.proofs.lemmas.List.{append-nil, get_or_append_left, get_or_push, length_push, at_drop_more, at_drop_all}
-use Rattle.std.proofs.lemmas.Bool.{cases_lt, cases_eq, both_ways}
+use Rattle.std.proofs.lemmas.List.{append-nil, get_or_append_left, get_or_push, length_push, at_drop_more}
+use Rattle.std.proofs.lemmas.Bool.{cases_lt, cases_eq, cond_both, both_ways}
 use Rattle.std.proofs.lemmas.Bool.Decides.{nat_tests}
 use Rattle.earliest.specs.declared.search.Best.{Best}
 use Rattle.earliest.specs.Earliest.{sooner, against, position_of, Precedes, after, after_all, earliest_of, ComesFirst, IsEarliest}
@@ -14,6 +14,11 @@ sooner_tells a b e = grind (arith, nat_tests)
 
 not_sooner_tells : (a b : Best) → sooner a b ≡ false → (b.deadline < a.deadline) ⊎ ((b.deadline ≡ a.deadline) × (b.number ≤ a.number))
 not_sooner_tells a b e = grind (arith, nat_tests)
+
+-- the earlier of two is among the first n, where both are
+pub against_inside : (n : ℕ) (best : Option Best) (found : Best) → IfSome best (λ b. b.position < n) → found.position < n → IfSome (against best found) (λ b. b.position < n)
+against_inside n None found old new = new
+against_inside n (Some b) found old new = cond_both (sooner found b) found b (λ x. x.position < n) (λ _. new) (λ _. old)
 
 -- a new record that comes before the earliest so far comes before all that the latter came before
 precedes_all : (d n k d' n' k' e m j : ℕ) → (d < d') ⊎ ((d ≡ d') × (n < n')) → (j ≡ k') ⊎ Precedes d' n' k' e m j → (j ≡ k' → (e ≡ d') × (m ≡ n')) → Precedes d n k e m j
@@ -129,24 +134,13 @@ module _ {C : Type 0} (deadline number : C → ℕ) (takes : C → Bool) where
   pub is_earliest : (xs : List C) → IsEarliest deadline number takes xs (earliest_of deadline number takes xs)
   is_earliest xs = known_tells xs (after_all deadline number takes None 0 xs) (known_all xs [] None tt)
 
-  -- one turn of the loop, and its end
+  -- one turn of the loop
   pub one_more : (xs : List C) (best : Option Best) (i : ℕ) (x : C) → i < length xs → x ≡ get_or xs i x → after_all deadline number takes best i (drop i xs) ≡ after_all deadline number takes (after deadline number takes best i x) (i + 1) (drop (i + 1) xs)
   one_more xs best i x inside is =
       at_drop_more (after_all deadline number takes best i) xs i x inside
       ∙ ap (λ (y : C). after_all deadline number takes (after deadline number takes best i y) (suc i) (drop (i + 1) xs)) (sym is)
       ∙ ap (λ (m : ℕ). after_all deadline number takes (after deadline number takes best i x) m (drop (i + 1) xs)) (sym (add-one i))
 
-  pub all_done : (xs : List C) (best : Option Best) (i : ℕ) → length xs ≤ i → after_all deadline number takes best i (drop i xs) ≡ best
-  all_done xs best i past = at_drop_all (after_all deadline number takes best i) xs i past
-
   -- who is found is among the records
   pub found_inside : (xs : List C) (k : ℕ) → earliest_of deadline number takes xs ≡ Some k → k < length xs
   found_inside xs k found = (subst (IsEarliest deadline number takes xs) found (is_earliest xs)).0
-
--- the earliest of records made of others is found where those are
-made_all : {B C : Type 0} (deadline number : C → ℕ) (takes : C → Bool) (make : B → C) (best : Option Best) (i : ℕ) (xs : List B) → after_all deadline number takes best i (map make xs) ≡ after_all (λ b. deadline (make b)) (λ b. number (make b)) (λ b. takes (make b)) best i xs
-made_all deadline number takes make best i [] = refl
-made_all deadline number takes make best i (x ∷ xs) = made_all deadline number takes make (after deadline number takes best i (make x)) (suc i) xs
-
-pub earliest_of_made : {B C : Type 0} (deadline number : C → ℕ) (takes : C → Bool) (make : B → C) (xs : List B) → earliest_of deadline number takes (map make xs) ≡ earliest_of (λ b. deadline (make b)) (λ b. number (make b)) (λ b. takes (make b)) xs
-earliest_of_made deadline number takes make xs = ap position_of (made_all deadline number takes make None 0 xs)

@@ -1,7 +1,13 @@
 -- The earliest of some records: the smallest deadline, then the smallest number.
 use Rattle.std.specs.Prelude.{◌≡◌, ℕ, suc, ◌<◌, Bool, true, false, cond, ◌&&◌, ◌||◌, ◌⊎◌, List, [], ◌∷◌, length, Some, None, Option, ◌==◌, ◌≢◌, nat_lt, slice_index_or}
 use Rattle.std.specs.List.{HoldsAt, AllByRecursion}
+use Rattle.std.specs.Fn.{Shared, FnReturnsAt}
+use denote.Ref.{Bor}
 use Rattle.earliest.specs.declared.search.Best.{Best}
+
+-- takes says of each record what the test returns for it
+abbrev pub Tells : {F C : Type 0} → Shared F (Bor C × Unit {0}) Bool → F → (C → Bool) → Type 0
+Tells calls test takes = (x : _) (r : Bool) → FnReturnsAt calls test x r → r ≡ takes x
 
 -- whether a record comes before another: by deadline, and then by number
 abbrev pub sooner : Best → Best → Bool

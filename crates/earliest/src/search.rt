@@ -1,6 +1,6 @@
 // Finding the earliest, from the first record to the last.
-ghost use Rattle.std.specs.Prelude.{◌≡◌, Some};
-ghost use Rattle.earliest.specs.Earliest.{sooner, against, after, position_of, earliest_of, IsEarliest};
+ghost use Rattle.std.specs.Prelude.{◌≡◌, ◌<◌, Bool, length, Some, IfSome};
+ghost use Rattle.earliest.specs.Earliest.{sooner, against, Tells, earliest_of, IsEarliest};
 
 use crate::contender::Contender;
 
@@ -14,53 +14,39 @@ struct Best {
 
 /// The position of the earliest record that takes part: the one with the smallest deadline, then the
 /// smallest number. Nobody, where none takes part.
-pub fn earliest<C: Contender>(items: &[C], ask: C::Ask) -> Option<usize>
-    ensures value { result ≡ earliest_of C.deadline C.number (C.takes ask) items.now }
-    ensures earliest { IsEarliest C.deadline C.number (C.takes ask) items.now result }
+pub fn earliest<C: Contender, F: Fn(&C) -> bool>(items: &[C], takes_part: F) -> Option<usize>
+    requires { F.IsAlwaysCallable takes_part }
+    ensures inside { IfSome result (λ k. k < length items.now) }
+    ensures value { (takes : C → Bool) → Tells F.Fn takes_part takes → result ≡ earliest_of C.deadline C.number takes items.now }
+    ensures earliest { (takes : C → Bool) → Tells F.Fn takes_part takes → IsEarliest C.deadline C.number takes items.now result }
 {
+    // The loop is the fold of the definition, one step a turn; by `filter` and `min_by_key` the answer would need a definition of its own.
     let mut best: Option<Best> = None;
     for (position, item) in items.iter().enumerate() {
-        best = held(best, position, item, ask);
+        if takes_part(item) {
+            best = Some(earlier(best, position, item));
+        }
     }
-    position_of(best)
+    best.map(|best| best.position)
 }
 
-// The earliest so far, after one more record.
-fn held<C: Contender>(best: Option<Best>, position: usize, item: &C, ask: C::Ask) -> Option<Best>
-    ensures { result ≡ after C.deadline C.number (C.takes ask) best position item.now }
+// The earlier of the best so far and one more record; of two alike, the first.
+fn earlier<C: Contender>(best: Option<Best>, position: usize, item: &C) -> Best
+    ensures { Some result ≡ against best (record { position = position; deadline = C.deadline item.now; number = C.number item.now }) }
 {
-    if !item.takes_part(ask) {
-        return best;
-    }
     let found = Best {
         position,
         deadline: item.deadline(),
         number: item.number(),
     };
-    earlier(best, found)
-}
-
-// The earlier of two.
-fn earlier(best: Option<Best>, found: Best) -> Option<Best>
-    ensures { result ≡ against best found }
-{
     match best {
-        None => Some(found),
-        Some(old) => Some(if is_sooner(found, old) { found } else { old }),
+        Some(best) if !is_sooner(found, best) => best,
+        _ => found,
     }
 }
 
 fn is_sooner(new: Best, old: Best) -> bool
     ensures { result ≡ sooner new old }
 {
-    new.deadline < old.deadline || new.deadline == old.deadline && new.number < old.number
-}
-
-fn position_of(best: Option<Best>) -> Option<usize>
-    ensures { result ≡ position_of best }
-{
-    match best {
-        None => None,
-        Some(best) => Some(best.position),
-    }
+    (new.deadline, new.number) < (old.deadline, old.number)
 }

@@ -1,8 +1,6 @@
 // The executive itself.
-ghost use Rattle.server.specs.Table.{table_rows};
-ghost use Rattle.server.specs.Demand.{Sound};
-
 use server::{Instant, Table};
+use std::marker::Model;
 
 mod calls;
 mod making;
@@ -16,5 +14,19 @@ pub struct Executive<R> {
     instant: Instant,
     table: Table,
     rule: R,
-    ghost sound: { ∥ Sound instant.ticks (table_rows table) ∥₁ },
+}
+
+/// To its callers an executive is its state.
+impl<R> Model for Executive<R> {
+    ghost use Rattle.executive.specs.Calls.{State};
+
+    ghost Value = { State R };
+
+    ghost use Rattle.server.specs.Table.{table_rows};
+    ghost use Rattle.server.specs.Demand.{Sound};
+    ghost use Rattle.executive.specs.State.{state_of};
+
+    ghost view = { state_of };
+
+    ghost invariant = { λ e. Sound e.instant.ticks (table_rows e.table) };
 }

@@ -1,6 +1,9 @@
 // What the calls refuse, case by case.
-ghost use Rattle.std.specs.Prelude.{◌≡◌};
-ghost use Rattle.executive.specs.Faults.{call_number, call_sentence};
+ghost use Rattle.std.specs.Prelude.{Some};
+ghost use Rattle.executive.specs.Faults.{call_number, call_layer, call_sentence};
+
+use faults::{Fault, Layer};
+use std::fmt;
 
 /// Why a call is refused.
 #[derive(Clone, Copy, PartialEq, Eq, Debug)]
@@ -15,11 +18,14 @@ pub enum CallFault {
     Finish,
 }
 
-impl CallFault {
-    /// The number of this refusal.
-    pub fn number(&self) -> u8
-        ensures { result ≡ call_number self.now }
-    {
+impl Fault for CallFault {
+    ghost number = { call_number };
+
+    ghost layer = { call_layer };
+
+    ghost sentence = { call_sentence };
+
+    fn number(&self) -> u8 {
         match self {
             CallFault::NoServer => 10,
             CallFault::Jobs => 11,
@@ -28,15 +34,26 @@ impl CallFault {
         }
     }
 
+    fn layer(&self) -> Layer {
+        Layer::Executive
+    }
+
     /// The same in words, for whoever made the call.
-    pub fn sentence(&self) -> &'static str
-        ensures { result.now ≡ call_sentence self.now }
-    {
+    fn sentence(&self) -> &'static str {
         match self {
             CallFault::NoServer => "no server has this number",
             CallFault::Jobs => "the server has 255 jobs waiting already",
             CallFault::Clock => "the clock stands at its last instant, 4000000000",
             CallFault::Finish => "a finish was told, but nobody runs",
         }
+    }
+}
+
+/// A refusal is shown by its sentence.
+impl fmt::Display for CallFault {
+    ghost output = { λ fault. Some (call_sentence fault) };
+
+    fn fmt<W: fmt::Write>(&self, f: &mut fmt::Formatter<W>) -> fmt::Result {
+        f.write_str(self.sentence())
     }
 }

@@ -5,6 +5,6 @@ pub mod answer;
 pub mod executive;
 pub mod fault;
 
-pub use answer::NOBODY;
+pub use answer::{NOBODY, TickAnswer};
 pub use executive::Executive;
 pub use fault::CallFault;

@@ -5,22 +5,24 @@
 #[cfg(test)]
 mod tests {
     use donor::{Allowance, DonorRule, EarliestFirst, Turns};
-    use executive::{CallFault, Executive, NOBODY};
+    use executive::{CallFault, Executive, NOBODY, TickAnswer};
+    use faults::Fault;
     use plan::{Kind, Plan, Terms};
     use richest::Richest;
     use server::{Phase, Row, Source};
     use std::process::Abort;
     use std::test::Fail;
 
+    // `add` and `holds` are much the same in two tables of examples; a library for them would be longer.
     fn add(plan: &mut Plan, kind: Kind, budget: u16, period: u16) -> Result<(), Fail> {
-        match plan.add(Terms {
+        let terms = Terms {
             kind,
             budget,
             period,
-        }) {
-            Ok(_) => Ok(()),
-            Err(_) => Err(Fail::new("the plan has no room")),
-        }
+        };
+        plan.add(terms)
+            .map(|_| ())
+            .map_err(|_| Fail::new("the plan has no room"))
     }
 
     fn arrives<R: DonorRule>(rt: &impl Abort, executive: &mut Executive<R>, server: u16) {
@@ -32,7 +34,7 @@ mod tests {
         rt: &impl Abort,
         executive: &mut Executive<R>,
         finished: bool,
-        answer: (u16, u16, Source, u32, u16),
+        answer: TickAnswer,
     ) {
         let before = executive.instant();
         let (runner, payer, source, _, _) = answer;
@@ -56,22 +58,20 @@ mod tests {
         phase: Phase,
         account: (u16, u16, u32, u8),
     ) -> Result<(), Fail> {
-        match executive.row(server) {
-            None => Err(Fail::new("there is no such server")),
-            Some(row) => {
-                assert_eq!(rt; row.phase, phase);
-                assert_eq!(rt;
-                    (
-                        row.account.capacity,
-                        row.account.residual,
-                        row.account.deadline,
-                        row.account.jobs,
-                    ),
-                    account
-                );
-                Ok(())
-            }
-        }
+        let row = executive
+            .row(server)
+            .ok_or_else(|| Fail::new("there is no such server"))?;
+        assert_eq!(rt; row.phase, phase);
+        assert_eq!(rt;
+            (
+                row.account.capacity,
+                row.account.residual,
+                row.account.deadline,
+                row.account.jobs,
+            ),
+            account
+        );
+        Ok(())
     }
 
     #[test]

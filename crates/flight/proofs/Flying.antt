@@ -1,52 +1,44 @@
--- A flight goes on where it is: what has been flown, and what is still to fly from there, are the whole.
-use Rattle.std.proofs.Common.{◌≡◌, ℕ, suc, Bool, false, List, [], ◌∷◌, ◌++◌, is_ok, Some, None, Ok, Err, Option, Result, sym, refl, ap, ◌∙◌, append_assoc, append-nil}
-use Rattle.std.proofs.lemmas.Bool.{false≢true}
+-- How a flight goes, by its parts.
+use Rattle.std.proofs.Common.{ℕ, suc, false, List, [], ◌∷◌, ◌++◌, Ok, Err, Result, refl, sym, subst, append_assoc, append-nil}
 use Rattle.executive.specs.declared.fault.CallFault.{CallFault}
-use Rattle.executive.specs.Calls.{RuleChoice, RuleStep, State, Ticked, answer_unless, left_unless, tick_refusal, choice_at, tick_of, ticked_by}
-use Rattle.flight.specs.Flight.{Line, Flown, behind, ended_by, ticking, flown_ticks}
+use Rattle.executive.specs.Calls.{RuleChoice, RuleStep, State, Ticked, tick_of, ticked_by}
+use Rattle.flight.specs.Flight.{Line, Flown, Flies, landed, behind, ticking, flown_tick, flown_ticks}
 
-pub behind_behind : {R F : Type 0} (lines more : List Line) (flown : Flown R F) → behind lines (behind more flown) ≡ behind (lines ++ more) flown
-behind_behind lines more flown = ap (λ (all : List Line). record { state = flown.state; lines = all; fault = flown.fault }) (sym (append_assoc lines more flown.lines))
+module _ {R L F : Type 0} (heard : L → List Line → Type 0) where
+  -- nothing more to fly
+  pub flies_landed : (state : State R) (listener : L) → Flies {F = F} heard (landed state) (Ok tt) state listener listener
+  flies_landed state listener = record { answers = refl; stands = refl; hears = λ lines before. subst (heard listener) (sym (append-nil lines)) before }
 
-module _ {R : Type 0} (choice : RuleChoice R) (step : RuleStep R) where
-  -- what is left to fly, and what was flown before it: the whole
-  abbrev pub Onward : Flown R CallFault → List Line → ℕ → State R → Type 0
-  Onward whole lines n state = whole ≡ behind lines (flown_ticks choice step n state)
+  -- with lines before
+  pub flies_behind : (more : List Line) (rest : Flown R F) (answer : Result (Unit {0}) F) (after : State R) (old middle new : L) → ((lines : List Line) → heard old lines → heard middle (lines ++ more)) → Flies heard rest answer after middle new → Flies heard (behind more rest) answer after old new
+  flies_behind more rest answer after old middle new first then =
+      record {
+        answers = then.answers;
+        stands = then.stands;
+        hears = λ lines before. subst (heard new) (append_assoc lines more rest.lines) (then.hears (lines ++ more) (first lines before));
+      }
 
-  pub tick_onward : (whole : Flown R CallFault) (lines : List Line) (n m : ℕ) (state : State R) (answer : Ticked) → n ≡ suc m → Ok answer ≡ tick_of choice state false → Onward whole lines n state → Onward whole (lines ++ ((state.instant, answer) ∷ [])) m (ticked_by choice step state false)
-  tick_onward whole lines n m state answer next granted onward =
-      onward
-      ∙ ap (λ (k : ℕ). behind lines (flown_ticks choice step k state)) next
-      ∙ ap (λ (r : Result Ticked CallFault). behind lines (ticking r state (flown_ticks choice step m (ticked_by choice step state false)))) (sym granted)
-      ∙ behind_behind lines ((state.instant, answer) ∷ []) (flown_ticks choice step m (ticked_by choice step state false))
+  -- whoever flies the rest, in whatever way, has flown the whole
+  abbrev pub Completes : Flown R F → L → Flown R F → L → Type 0
+  Completes rest middle whole old =
+      (answer : Result (Unit {0}) F) (after : State R) (new : L) → Flies heard rest answer after middle new → Flies heard whole answer after old new
 
-  pub tick_ended : (whole : Flown R CallFault) (lines : List Line) (n m : ℕ) (state : State R) (fault : CallFault) → n ≡ suc m → Err fault ≡ tick_of choice state false → Onward whole lines n state → whole ≡ behind lines (ticking (Err fault) state (flown_ticks choice step m (ticked_by choice step state false)))
-  tick_ended whole lines n m state fault next refused onward =
-      onward
-      ∙ ap (λ (k : ℕ). behind lines (flown_ticks choice step k state)) next
-      ∙ ap (λ (r : Result Ticked CallFault). behind lines (ticking r state (flown_ticks choice step m (ticked_by choice step state false)))) (sym refused)
-
-  pub start_onward : (n m : ℕ) (state : State R) → m ≡ n → Onward (flown_ticks choice step n state) [] m state
-  start_onward n m state same = ap (λ (k : ℕ). behind [] (flown_ticks choice step k state)) (sym same)
-
-  -- a refused tick leaves all as it was
-  pub refused_stays : (state : State R) (finished : Bool) (fault : CallFault) → Err fault ≡ tick_of choice state finished → ticked_by choice step state finished ≡ state
-  refused_stays state finished fault refused = by_reason (tick_refusal (choice_at choice state) state.instant state.rows finished) _ _ refused
+module _ {R L : Type 0} (heard : L → List Line → Type 0) (choice : RuleChoice R) (step : RuleStep R) where
+  -- a tick that was granted, and the ticks after it
+  pub tick_more : (n : ℕ) (state middle : State R) (old now : L) → Flies heard (flown_tick choice step false state) (Ok tt) middle old now → Completes heard (flown_ticks choice step n middle) now (flown_ticks choice step (suc n) state) old
+  tick_more n state middle old now first =
+      by_answer (tick_of choice state false) (ticked_by choice step state false) first
     where
-      by_reason : (reason : Option CallFault) (answer : Ticked) (after : State R) → Err fault ≡ answer_unless reason answer → left_unless reason state after ≡ state
-      by_reason None answer after wrong = absurd (false≢true (ap is_ok wrong))
-      by_reason (Some other) answer after _ = refl
+      by_answer : (r : Result Ticked CallFault) (next : State R) → Flies heard (ticking r state (landed next)) (Ok tt) middle old now → Completes heard (flown_ticks choice step n middle) now (ticking r state (flown_ticks choice step n next)) old
+      by_answer (Ok answer) next one =
+          λ all after new rest. flies_behind heard ((state.instant, answer) ∷ []) (flown_ticks choice step n next) all after old now new one.hears (rw (← one.stands) rest)
+      by_answer (Err fault) next one = absurd (cc one.answers)
 
--- what is known of a flight that has ended, by its parts
-pub record Parts {R F : Type 0} (whole : Flown R F) (answer : Result (Unit {0}) F) (state : State R) (lines : List Line) : Type 0 where
-  pub answers : answer ≡ ended_by whole.fault
-  pub stands : state ≡ whole.state
-  pub listed : lines ≡ whole.lines
-
-pub parts : {R F : Type 0} (whole : Flown R F) (lines : List Line) (state : State R) (fault : Option F) → whole ≡ behind lines (record { state = state; lines = []; fault = fault }) → Parts whole (ended_by fault) state lines
-parts {R} {F} whole lines state fault is =
-    record {
-      answers = sym (ap (λ (w : Flown R F). ended_by w.fault) is);
-      stands = sym (ap (λ (w : Flown R F). w.state) is);
-      listed = sym (append-nil lines) ∙ sym (ap (λ (w : Flown R F). w.lines) is);
-    }
+  -- a tick that was refused: no tick comes after it
+  pub tick_ended : (n : ℕ) (fault : CallFault) (state after : State R) (old new : L) → Flies heard (flown_tick choice step false state) (Err fault) after old new → Flies heard (flown_ticks choice step (suc n) state) (Err fault) after old new
+  tick_ended n fault state after old new last =
+      by_answer (tick_of choice state false) (ticked_by choice step state false) last
+    where
+      by_answer : (r : Result Ticked CallFault) (next : State R) → Flies heard (ticking r state (landed next)) (Err fault) after old new → Flies heard (ticking r state (flown_ticks choice step n next)) (Err fault) after old new
+      by_answer (Ok answer) next wrong = absurd (cc wrong.answers)
+      by_answer (Err other) next one = one

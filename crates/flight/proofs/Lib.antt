@@ -1,3 +1,3 @@
 pub mod Flying
 pub mod Recording
-pub mod Growing
+pub mod Fitting

@@ -1,7 +1,7 @@
 -- Playing a trace: the executive afterwards, the lines of all ticks in their order, and the fault that ended it, if
 -- one did.
-use Rattle.std.specs.Prelude.{ℕ, zero, suc, ◌+◌, ◌*◌, ◌/◌, ◌%◌, true, false, List, [], ◌∷◌, ◌++◌, length, Some, None, Ok, Err, Option, Result}
-use Rattle.records.specs.declared.fault.Placed.{Placed}
+use Rattle.std.specs.Prelude.{◌≡◌, ℕ, zero, suc, ◌+◌, ◌*◌, ◌/◌, ◌%◌, Bool, true, false, List, [], ◌∷◌, ◌++◌, length, Some, None, Ok, Err, Option, Result}
+use Rattle.faults.specs.declared.placed.Placed.{Placed}
 use Rattle.records.specs.declared.fault.RecordsFault.{RecordsFault}
 use Rattle.records.specs.declared.trace.TraceRecord.{TraceRecord}
 use Rattle.records.specs.declared.trace.TraceRecord.TheVariants.{Ticks, Arrival, Finish}
@@ -39,12 +39,22 @@ abbrev pub ended_by : {F : Type 0} → Option F → Result (Unit {0}) F
 ended_by None = Ok tt
 ended_by (Some fault) = Err fault
 
+-- a flight goes like this: it answers so, leaves the executive so, and its lines are heard behind those before
+pub record Flies {R L F : Type 0} (heard : L → List Line → Type 0) (flown : Flown R F) (answer : Result (Unit {0}) F) (after : State R) (old new : L) : Type 0 where
+  pub answers : answer ≡ ended_by flown.fault
+  pub stands : after ≡ flown.state
+  pub hears : (lines : List Line) → heard old lines → heard new (lines ++ flown.lines)
+
 -- one tick and what comes after it: a tick that is refused ends the flight
 abbrev pub ticking : {R : Type 0} → Result Ticked CallFault → State R → Flown R CallFault → Flown R CallFault
 ticking (Ok answer) state rest = behind ((state.instant, answer) ∷ []) rest
 ticking (Err fault) state rest = record { state = state; lines = []; fault = Some fault }
 
 module _ {R : Type 0} (choice : RuleChoice R) (step : RuleStep R) where
+  -- one tick
+  abbrev pub flown_tick : Bool → State R → Flown R CallFault
+  flown_tick finished state = ticking (tick_of choice state finished) state (landed (ticked_by choice step state finished))
+
   -- so many ticks without a finish
   abbrev pub flown_ticks : ℕ → State R → Flown R CallFault
   flown_ticks zero state = landed state
@@ -54,7 +64,7 @@ module _ {R : Type 0} (choice : RuleChoice R) (step : RuleStep R) where
   abbrev pub flown_record : TraceRecord → State R → Flown R CallFault
   flown_record (Ticks n) state = flown_ticks n state
   flown_record (Arrival server) state = record { state = after_arrive state server; lines = []; fault = fault_of (arrive_answer state.rows server) }
-  flown_record Finish state = ticking (tick_of choice state true) state (landed (ticked_by choice step state true))
+  flown_record Finish state = flown_tick true state
 
   -- a record that was read, or not
   abbrev pub called : Option CallFault → Option FlightFault

@@ -2,9 +2,11 @@
 use Rattle.std.specs.Prelude.{◌≡◌, ℕ, cond, List, [], ◌∷◌, ◌++◌, Some, None, codes, decimal, Option, ◌==◌}
 use Rattle.std.proofs.Math.Utf8.{encode}
 use Rattle.std.specs.List.{flat_map}
-use Rattle.records.specs.declared.fault.Placed.{Placed}
+use Rattle.faults.specs.declared.layer.Layer.{Layer}
+use Rattle.faults.specs.declared.placed.Placed.{Placed}
+use Rattle.faults.specs.Faults.{layer_word, fault_words}
 use Rattle.records.specs.declared.fault.PlanFileFault.{PlanFileFault}
-use Rattle.records.specs.Faults.{layer_word, file_number, file_layer}
+use Rattle.records.specs.Faults.{file_number, file_layer}
 use Rattle.server.specs.declared.turn.Source.{Source}
 use Rattle.server.specs.declared.turn.Source.TheVariants.{Own, Residual, Stolen, Idle, Empty}
 use Rattle.executive.specs.Calls.{nobody}
@@ -49,13 +51,17 @@ header_text letter servers = codes "rule " ++ (encode letter ++ (codes " servers
 -- the line of a fault: its number, layer and byte. It ends the listing of a flight, and is all there is of one whose plan
 -- file is at fault
 abbrev pub fault_text : ℕ → List ℕ → ℕ → List ℕ
-fault_text number layer byte = codes "fault " ++ (decimal number ++ (codes " " ++ (layer ++ (codes " " ++ (decimal byte ++ newline)))))
+fault_text number layer byte = fault_words number layer byte ++ newline
+
+-- the same of a placed fault of any type, by the number and the layer that the type gives
+abbrev pub placed_line : {F : Type 0} → (F → ℕ) → (F → Layer) → Placed F → List ℕ
+placed_line number layer placed = fault_text (number placed.fault) (layer_word (layer placed.fault)) placed.byte
 
 abbrev pub fault_line : Placed FlightFault → List ℕ
-fault_line placed = fault_text (flight_number placed.fault) (layer_word (flight_layer placed.fault)) placed.byte
+fault_line placed = placed_line flight_number flight_layer placed
 
 abbrev pub plan_fault_line : Placed PlanFileFault → List ℕ
-plan_fault_line placed = fault_text (file_number placed.fault) (layer_word (file_layer placed.fault)) placed.byte
+plan_fault_line placed = placed_line file_number file_layer placed
 
 abbrev pub end_text : Option (Placed FlightFault) → List ℕ
 end_text None = []

@@ -2,7 +2,7 @@
 ghost use Rattle.std.specs.Prelude.{◌≡◌, min, length};
 
 use crate::listener::Listener;
-use server::Source;
+use executive::TickAnswer;
 
 /// How many ticks were heard. The count stops at the largest number that it has.
 #[derive(Clone, Copy, PartialEq, Eq, Debug)]
@@ -13,7 +13,7 @@ pub struct TickCount {
 impl Listener for TickCount {
     ghost heard = { λ count lines. count.ticks ≡ min 4294967295 (length lines) };
 
-    fn hear(&mut self, _instant: u32, _answer: (u16, u16, Source, u32, u16)) {
+    fn hear(&mut self, _instant: u32, _answer: TickAnswer) {
         self.ticks = self.ticks.saturating_add(1);
     }
 }

@@ -1,10 +1,12 @@
 // What ends a flight: a record that cannot be read, or a call that the executive refuses.
-ghost use Rattle.std.specs.Prelude.{◌≡◌};
+ghost use Rattle.std.specs.Prelude.{◌≡◌, Some};
 ghost use Rattle.flight.specs.declared.fault.FlightFault.TheVariants.{Records, Executive};
 ghost use Rattle.flight.specs.Faults.{flight_number, flight_layer, flight_sentence};
 
 use executive::CallFault;
-use records::{Layer, RecordsFault};
+use faults::{Fault, Layer};
+use records::RecordsFault;
+use std::fmt;
 
 /// What ends a flight.
 #[derive(Clone, Copy, PartialEq, Eq, Debug)]
@@ -13,6 +15,7 @@ pub enum FlightFault {
     Executive(CallFault),
 }
 
+// By hand and not derived: `from_gives` says which fault a `?` makes, and clauses name it.
 impl From<RecordsFault> for FlightFault {
     ghost from_gives = { λ f r. r ≡ Records f };
 
@@ -29,34 +32,40 @@ impl From<CallFault> for FlightFault {
     }
 }
 
-impl FlightFault {
-    /// The number of this fault.
-    pub fn number(&self) -> u8
-        ensures { result ≡ flight_number self.now }
-    {
+impl Fault for FlightFault {
+    ghost number = { flight_number };
+
+    ghost layer = { flight_layer };
+
+    ghost sentence = { flight_sentence };
+
+    fn number(&self) -> u8 {
         match self {
             FlightFault::Records(fault) => fault.number(),
             FlightFault::Executive(fault) => fault.number(),
         }
     }
 
-    /// The layer that found it.
-    pub fn layer(&self) -> Layer
-        ensures { result ≡ flight_layer self.now }
-    {
+    fn layer(&self) -> Layer {
         match self {
             FlightFault::Records(fault) => fault.layer(),
-            FlightFault::Executive(_) => Layer::Executive,
+            FlightFault::Executive(fault) => fault.layer(),
         }
     }
 
-    /// The same in words.
-    pub fn sentence(&self) -> &'static str
-        ensures { result.now ≡ flight_sentence self.now }
-    {
+    fn sentence(&self) -> &'static str {
         match self {
             FlightFault::Records(fault) => fault.sentence(),
             FlightFault::Executive(fault) => fault.sentence(),
         }
+    }
+}
+
+/// What ends a flight is shown by its sentence.
+impl fmt::Display for FlightFault {
+    ghost output = { λ fault. Some (flight_sentence fault) };
+
+    fn fmt<W: fmt::Write>(&self, f: &mut fmt::Formatter<W>) -> fmt::Result {
+        f.write_str(self.sentence())
     }
 }

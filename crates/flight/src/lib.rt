@@ -12,7 +12,7 @@ pub mod printing;
 pub use counting::TickCount;
 pub use fault::FlightFault;
 pub use listener::Listener;
-pub use listing::{fault_line, header, plan_fault_line};
+pub use listing::{fault_line, header};
 pub use page::Page;
 pub use playing::play;
 pub use printing::Listing;

@@ -2,7 +2,7 @@
 ghost use Rattle.std.specs.Prelude.{List, [], ◌∷◌, ◌++◌};
 ghost use Rattle.flight.specs.Flight.{Line};
 
-use server::Source;
+use executive::TickAnswer;
 
 /// One who hears each tick of a flight, in order: a listing, a counter, a test. Play is proved once for all of them.
 pub trait Listener {
@@ -10,6 +10,6 @@ pub trait Listener {
     ghost heard: { Self → List Line → Type 0 };
 
     /// Told what the tick at this instant answered.
-    fn hear(&mut self, instant: u32, answer: (u16, u16, Source, u32, u16))
+    fn hear(&mut self, instant: u32, answer: TickAnswer)
         ensures { (lines : List Line) → heard self.old lines → heard self.new (lines ++ ((instant, answer) ∷ [])) };
 }

@@ -1,11 +1,10 @@
 // A page: text that waits to be written.
-ghost use Rattle.std.specs.Prelude.{◌≡◌, ◌≤◌, length};
-ghost use Rattle.flight.specs.Sizes.{page_bytes};
-
 mod lines;
 mod writing;
 
+use arrayvec::ArrayVec;
 pub use lines::letter_of;
+use std::marker::Model;
 
 /// How many bytes a page can hold.
 pub const PAGE_BYTES: usize = 4096;
@@ -13,8 +12,16 @@ pub const PAGE_BYTES: usize = 4096;
 /// Text that waits to be written. What does not fit is left out, so whoever writes makes room first.
 #[derive(Drop)]
 pub struct Page {
-    bytes: [u8; PAGE_BYTES],
-    len: usize,
-    ghost whole: { length bytes ≡ page_bytes },
-    ghost room: { len ≤ page_bytes },
+    bytes: ArrayVec<u8, PAGE_BYTES>,
+}
+
+/// To its callers a page is the text that stands on it.
+impl Model for Page {
+    ghost use Rattle.std.specs.Prelude.{ℕ, List};
+
+    ghost Value = { List ℕ };
+
+    ghost use Rattle.flight.specs.Page.{page_text};
+
+    ghost view = { page_text };
 }

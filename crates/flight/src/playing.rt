@@ -1,16 +1,31 @@
 // Playing a trace, record by record, up to the first fault.
 ghost use Rattle.std.specs.Prelude.{◌≡◌, List, ◌++◌};
-ghost use Rattle.executive.specs.State.{state_of};
-ghost use Rattle.records.specs.declared.trace.TraceRecord.TheVariants.{Finish};
 ghost use Rattle.records.specs.Trace.{record_read};
-ghost use Rattle.flight.specs.Flight.{Line, ended_by, flown_ticks, flown_record, flown_read, played};
+ghost use Rattle.flight.specs.Flight.{Line, Flies, ended_by, flown_tick, flown_ticks, flown_record, flown_read, played};
 
 use crate::fault::FlightFault;
 use crate::listener::Listener;
 use donor::DonorRule;
 use executive::{CallFault, Executive};
 use records::fault::located;
+use records::trace::RECORD_BYTES;
 use records::{Placed, TraceRecord, read_record};
+
+// The executive and the listener stay two parameters throughout: a struct of the two loans would make no contract shorter.
+
+// One tick.
+fn fly_tick<R: DonorRule, L: Listener>(
+    executive: &mut Executive<R>,
+    finished: bool,
+    listener: &mut L,
+) -> Result<(), CallFault>
+    ensures { Flies L.Listener.heard (flown_tick R.DonorRule.choice R.DonorRule.step finished executive.old) result executive.new listener.old listener.new }
+{
+    let at = executive.instant();
+    let answer = executive.tick(finished)?;
+    listener.hear(at, answer);
+    Ok(())
+}
 
 // So many ticks without a finish.
 fn fly_ticks<R: DonorRule, L: Listener>(
@@ -18,30 +33,11 @@ fn fly_ticks<R: DonorRule, L: Listener>(
     count: u16,
     listener: &mut L,
 ) -> Result<(), CallFault>
-    ensures answer { result ≡ ended_by (flown_ticks R.DonorRule.choice R.DonorRule.step count (state_of executive.old)).fault }
-    ensures state { state_of executive.new ≡ (flown_ticks R.DonorRule.choice R.DonorRule.step count (state_of executive.old)).state }
-    ensures heard { (lines : List Line) → L.Listener.heard listener.old lines → L.Listener.heard listener.new (lines ++ (flown_ticks R.DonorRule.choice R.DonorRule.step count (state_of executive.old)).lines) }
+    ensures { Flies L.Listener.heard (flown_ticks R.DonorRule.choice R.DonorRule.step count executive.old) result executive.new listener.old listener.new }
 {
     for _ in 0..count {
-        let at = executive.instant();
-        let answer = executive.tick(false)?;
-        listener.hear(at, answer);
+        fly_tick(executive, false, listener)?;
     }
-    Ok(())
-}
-
-// One tick with a finish.
-fn fly_finish<R: DonorRule, L: Listener>(
-    executive: &mut Executive<R>,
-    listener: &mut L,
-) -> Result<(), CallFault>
-    ensures answer { result ≡ ended_by (flown_record R.DonorRule.choice R.DonorRule.step Finish (state_of executive.old)).fault }
-    ensures state { state_of executive.new ≡ (flown_record R.DonorRule.choice R.DonorRule.step Finish (state_of executive.old)).state }
-    ensures heard { (lines : List Line) → L.Listener.heard listener.old lines → L.Listener.heard listener.new (lines ++ (flown_record R.DonorRule.choice R.DonorRule.step Finish (state_of executive.old)).lines) }
-{
-    let at = executive.instant();
-    let answer = executive.tick(true)?;
-    listener.hear(at, answer);
     Ok(())
 }
 
@@ -51,14 +47,12 @@ fn fly_record<R: DonorRule, L: Listener>(
     entry: TraceRecord,
     listener: &mut L,
 ) -> Result<(), CallFault>
-    ensures answer { result ≡ ended_by (flown_record R.DonorRule.choice R.DonorRule.step entry (state_of executive.old)).fault }
-    ensures state { state_of executive.new ≡ (flown_record R.DonorRule.choice R.DonorRule.step entry (state_of executive.old)).state }
-    ensures heard { (lines : List Line) → L.Listener.heard listener.old lines → L.Listener.heard listener.new (lines ++ (flown_record R.DonorRule.choice R.DonorRule.step entry (state_of executive.old)).lines) }
+    ensures { Flies L.Listener.heard (flown_record R.DonorRule.choice R.DonorRule.step entry executive.old) result executive.new listener.old listener.new }
 {
     match entry {
         TraceRecord::Ticks(count) => fly_ticks(executive, count, listener),
         TraceRecord::Arrival(server) => executive.arrive(server),
-        TraceRecord::Finish => fly_finish(executive, listener),
+        TraceRecord::Finish => fly_tick(executive, true, listener),
     }
 }
 
@@ -69,9 +63,7 @@ fn fly_at<R: DonorRule, L: Listener>(
     byte: usize,
     listener: &mut L,
 ) -> Result<(), FlightFault>
-    ensures answer { result ≡ ended_by (flown_read R.DonorRule.choice R.DonorRule.step (record_read trace.now byte) (state_of executive.old)).fault }
-    ensures state { state_of executive.new ≡ (flown_read R.DonorRule.choice R.DonorRule.step (record_read trace.now byte) (state_of executive.old)).state }
-    ensures heard { (lines : List Line) → L.Listener.heard listener.old lines → L.Listener.heard listener.new (lines ++ (flown_read R.DonorRule.choice R.DonorRule.step (record_read trace.now byte) (state_of executive.old)).lines) }
+    ensures { Flies L.Listener.heard (flown_read R.DonorRule.choice R.DonorRule.step (record_read trace.now byte) executive.old) result executive.new listener.old listener.new }
 {
     let entry = read_record(trace, byte)?;
     fly_record(executive, entry, listener)?;
@@ -85,12 +77,11 @@ pub fn play<R: DonorRule, L: Listener>(
     trace: &[u8],
     listener: &mut L,
 ) -> Result<(), Placed<FlightFault>>
-    ensures answer { result ≡ ended_by (played R.DonorRule.choice R.DonorRule.step trace.now (state_of executive.old)).fault }
-    ensures state { state_of executive.new ≡ (played R.DonorRule.choice R.DonorRule.step trace.now (state_of executive.old)).state }
-    ensures heard { (lines : List Line) → L.Listener.heard listener.old lines → L.Listener.heard listener.new (lines ++ (played R.DonorRule.choice R.DonorRule.step trace.now (state_of executive.old)).lines) }
+    ensures answer { result ≡ ended_by (played R.DonorRule.choice R.DonorRule.step trace.now executive.old).fault }
+    ensures state { executive.new ≡ (played R.DonorRule.choice R.DonorRule.step trace.now executive.old).state }
+    ensures heard { (lines : List Line) → L.Listener.heard listener.old lines → L.Listener.heard listener.new (lines ++ (played R.DonorRule.choice R.DonorRule.step trace.now executive.old).lines) }
 {
-    for k in 0..trace.len() / 2 + trace.len() % 2 {
-        let byte = 2 * k;
+    for byte in (0..trace.len()).step_by(RECORD_BYTES) {
         located(fly_at(executive, trace, byte, listener), byte)?;
     }
     Ok(())

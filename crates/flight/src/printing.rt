@@ -1,13 +1,12 @@
 // The listing as a listener: lines gather on a page, and full pages are written.
-ghost use Rattle.std.specs.Prelude.{◌≡◌, ◌+◌, ◌≤◌, true, not, []};
+ghost use Rattle.std.specs.Prelude.{◌≡◌, ◌+◌, ◌≤◌, IsErr, is_ok, [], length};
 ghost use Rattle.flight.specs.Sizes.{page_bytes, line_bytes};
-ghost use Rattle.flight.specs.Page.{page_text};
 ghost use Rattle.flight.specs.Listing.{lines_text, EndsWith};
 
 use crate::listener::Listener;
 use crate::page::Page;
-use server::Source;
-use std::io::Print;
+use executive::TickAnswer;
+use std::io::{self, Print};
 
 /// How much room a line can need.
 const LINE_BYTES: usize = 64;
@@ -17,39 +16,47 @@ const LINE_BYTES: usize = 64;
 pub struct Listing<W> {
     page: Page,
     out: W,
-    failed: bool,
+    written: io::Result<()>,
 }
 
 impl<W: Print> Listing<W> {
     /// A listing with nothing heard yet.
     pub fn new(out: W) -> Listing<W>
-        ensures { page_text result.page ≡ [] }
+        ensures { result.page ≡ [] }
     {
         Listing {
             page: Page::new(),
             out,
-            failed: false,
+            written: Ok(()),
         }
     }
 
-    /// Writes what waits on the page, and tells whether all has been written so far. What cannot be written is lost.
+    // Tells whether, and not the failure: a loan of the failure would hold the listing, and `written` shows it.
+    /// Writes what waits on the page, and tells whether all has been written so far. What cannot be written is lost, and
+    /// after the first failure nothing more is written.
     pub fn flush(&mut self) -> bool
-        ensures text { page_text self.new.page ≡ [] }
-        ensures len { self.new.page.len ≡ 0 }
-        ensures told { result ≡ not self.new.failed }
-        ensures remembered { self.old.failed ≡ true → self.new.failed ≡ true }
+        ensures text { self.new.page ≡ [] }
+        ensures told { result ≡ is_ok self.new.written }
+        ensures remembered { IsErr self.old.written → self.new.written ≡ self.old.written }
     {
-        if !self.failed && self.out.write_all(self.page.text()).is_err() {
-            self.failed = true;
+        if self.written.is_ok() {
+            self.written = self.out.write_all(self.page.text());
         }
         self.page.clear();
-        !self.failed
+        self.written.is_ok()
+    }
+
+    /// What came of writing so far: the first failure, if there was one.
+    pub fn written(&self) -> &io::Result<()>
+        ensures { result.now ≡ self.now.written }
+    {
+        &self.written
     }
 
     // Makes room for a line, where there is none.
     fn make_room(&mut self)
-        ensures room { self.new.page.len + line_bytes ≤ page_bytes }
-        ensures text { EndsWith (page_text self.new.page) (page_text self.old.page) }
+        ensures room { length self.new.page + line_bytes ≤ page_bytes }
+        ensures text { EndsWith self.new.page self.old.page }
     {
         if !self.page.has_room(LINE_BYTES) {
             self.flush();
@@ -59,9 +66,9 @@ impl<W: Print> Listing<W> {
 
 /// What waits on the page is the end of the text of all lines heard.
 impl<W: Print> Listener for Listing<W> {
-    ghost heard = { λ listing lines. EndsWith (page_text listing.page) (lines_text lines) };
+    ghost heard = { λ listing lines. EndsWith listing.page (lines_text lines) };
 
-    fn hear(&mut self, instant: u32, answer: (u16, u16, Source, u32, u16)) {
+    fn hear(&mut self, instant: u32, answer: TickAnswer) {
         self.make_room();
         self.page.put_line(instant, answer);
     }

@@ -6,7 +6,8 @@
 mod tests {
     use bits::BitsFault;
     use donor::EarliestFirst;
-    use executive::{CallFault, Executive, NOBODY};
+    use executive::{CallFault, Executive, NOBODY, TickAnswer};
+    use faults::Fault;
     use flight::{FlightFault, Page, TickCount, play};
     use plan::{Kind, Plan, Terms};
     use records::{RecordsFault, TraceRecord, read_record};
@@ -48,10 +49,9 @@ mod tests {
             budget: 2,
             period: 4,
         };
-        match plan.add(terms) {
-            Ok(_) => Ok(Executive::new(&plan, EarliestFirst)),
-            Err(_) => Err(Fail::new("the plan has no room")),
-        }
+        plan.add(terms)
+            .map_err(|_| Fail::new("the plan has no room"))?;
+        Ok(Executive::new(&plan, EarliestFirst))
     }
 
     // the trace ends with this fault at this byte, if with one, after so many ticks, and the clock has gone as far
@@ -63,11 +63,8 @@ mod tests {
     ) -> Result<(), Fail> {
         let mut executive = one_server()?;
         let mut count = TickCount { ticks: 0 };
-        let ended = match play(&mut executive, trace, &mut count) {
-            Ok(()) => None,
-            Err(placed) => Some((placed.fault, placed.byte)),
-        };
-        assert_eq!(rt; ended, fault);
+        let ended = play(&mut executive, trace, &mut count).err();
+        assert_eq!(rt; ended.map(|placed| (placed.fault, placed.byte)), fault);
         assert_eq!(rt; count.ticks, ticks);
         assert_eq!(rt; executive.instant(), ticks);
         Ok(())
@@ -134,7 +131,7 @@ mod tests {
     }
 
     // the line of a tick is this text
-    fn lists(rt: &impl Abort, instant: u32, answer: (u16, u16, Source, u32, u16), text: &[u8]) {
+    fn lists(rt: &impl Abort, instant: u32, answer: TickAnswer, text: &[u8]) {
         let mut page = Page::new();
         page.put_line(instant, answer);
         assert!(rt; page.text() == text);

@@ -3,46 +3,41 @@
 
 ghost use Rattle.std.specs.Prelude.{◌≡◌, min, length};
 
-use anyhow::anyhow;
+use anyhow::{Context, anyhow};
 use donor::{Allowance, DonorRule, EarliestFirst, Nobody, Turns};
-use executive::Executive;
-use flight::{Listener, Page, fault_line, header, plan_fault_line, play};
+use executive::{Executive, TickAnswer};
+use faults::{Fault, Placed};
+use flight::{Listener, Page, TickCount, fault_line, header, play};
 use plan::Plan;
 use records::read_plan;
-use server::Source;
-use std::fs;
+use std::{fmt, fs};
 
 /// No more flights than this are flown.
 const MOST_FLIGHTS: usize = 100_000;
-
-/// A flight's head: seed, rule, limit, and the lengths of plan file and trace.
-const HEAD_BYTES: usize = 15;
 
 /// The checksum of a listing: a 32-bit FNV-1a over its bytes, and how many ticks it has.
 #[derive(Drop)]
 struct Checksum {
     page: Page,
     value: u32,
-    ticks: u32,
+    count: TickCount,
 }
 
 /// A checksum, after more text.
 fn mixed(value: u32, text: &[u8]) -> u32 {
-    let mut sum = value;
-    for byte in text.iter() {
-        sum = (sum ^ *byte as u32).wrapping_mul(16_777_619);
-    }
-    sum
+    text.iter().fold(value, |sum, byte| {
+        (sum ^ *byte as u32).wrapping_mul(16_777_619)
+    })
 }
 
 impl Checksum {
     fn new() -> Checksum
-        ensures { result.ticks ≡ 0 }
+        ensures { result.count.ticks ≡ 0 }
     {
         Checksum {
             page: Page::new(),
             value: 2_166_136_261,
-            ticks: 0,
+            count: TickCount { ticks: 0 },
         }
     }
 
@@ -53,147 +48,177 @@ impl Checksum {
 
 /// It hears each tick by mixing its line in.
 impl Listener for Checksum {
-    ghost heard = { λ sum lines. sum.ticks ≡ min 4294967295 (length lines) };
+    ghost heard = { λ sum lines. sum.count.ticks ≡ min 4294967295 (length lines) };
 
-    fn hear(&mut self, instant: u32, answer: (u16, u16, Source, u32, u16)) {
+    fn hear(&mut self, instant: u32, answer: TickAnswer) {
         self.page.clear();
         self.page.put_line(instant, answer);
         self.value = mixed(self.value, self.page.text());
-        self.ticks = self.ticks.saturating_add(1);
+        self.count.hear(instant, answer);
     }
 }
 
-/// One flight, as it is packed.
+// Not shared with `durashem`, which reads names of people: the variants and the arms below are all that both would have.
+/// A donor rule, as a flight names it.
+#[derive(Clone, Copy)]
+enum RuleName {
+    Earliest,
+    Nobody,
+    Turns,
+    Allowance(u16),
+}
+
+impl RuleName {
+    /// The rule of this letter, if there is one. The allowance has this limit.
+    fn of(letter: u8, limit: u16) -> Option<RuleName> {
+        match letter {
+            b'E' => Some(RuleName::Earliest),
+            b'N' => Some(RuleName::Nobody),
+            b'T' => Some(RuleName::Turns),
+            b'A' => Some(RuleName::Allowance(limit)),
+            _ => None,
+        }
+    }
+}
+
+/// How the line of a flight begins: its seed, the letter of its rule, and the limit where the rule has one.
+#[derive(Clone, Copy)]
+struct Head {
+    seed: u32,
+    letter: char,
+    limit: Option<u16>,
+}
+
+impl fmt::Display for Head {
+    fn fmt<W: fmt::Write>(&self, f: &mut fmt::Formatter<W>) -> fmt::Result {
+        let Head {
+            seed,
+            letter,
+            limit,
+        } = *self;
+        match limit {
+            Some(limit) => write!(f, "{seed} {letter}:{limit}"),
+            None => write!(f, "{seed} {letter}"),
+        }
+    }
+}
+
+/// One flight, as it is packed. It has no rule if it names none that there is.
 #[derive(Clone, Copy)]
 struct Packed<'a> {
-    seed: u64,
-    letter: u8,
-    limit: u16,
+    seed: u32,
+    rule: Option<RuleName>,
     plan: &'a [u8],
     trace: &'a [u8],
 }
 
-fn byte_at(bytes: &[u8], at: usize) -> u8 {
-    match bytes.get(at) {
-        Some(byte) => *byte,
-        None => 0,
-    }
+/// The number that the first four bytes make, and what follows them.
+fn first_number(bytes: &[u8]) -> Option<(u32, &[u8])> {
+    let (number, rest) = bytes.split_first_chunk::<4>()?;
+    Some((u32::from_be_bytes(*number), rest))
 }
 
-fn word_at(bytes: &[u8], at: usize) -> u16 {
-    byte_at(bytes, at) as u16 * 256 + byte_at(bytes, at.saturating_add(1)) as u16
+/// The first flight that is packed here, if it is there whole, and what follows it: seed, rule, limit, the lengths of
+/// plan file and trace, and then the two.
+fn first_flight(bytes: &[u8]) -> Option<(Packed<'_>, &[u8])> {
+    let (seed, rest) = first_number(bytes)?;
+    let (letter, rest) = rest.split_first()?;
+    let (limit, rest) = rest.split_first_chunk::<2>()?;
+    let (plan_length, rest) = first_number(rest)?;
+    let (trace_length, rest) = first_number(rest)?;
+    let (plan, rest) = rest.split_at_checked(plan_length as usize)?;
+    let (trace, rest) = rest.split_at_checked(trace_length as usize)?;
+    let rule = RuleName::of(*letter, u16::from_be_bytes(*limit));
+    let flight = Packed {
+        seed,
+        rule,
+        plan,
+        trace,
+    };
+    Some((flight, rest))
 }
 
-fn number_at(bytes: &[u8], at: usize) -> u64 {
-    word_at(bytes, at) as u64 * 65_536 + word_at(bytes, at.saturating_add(2)) as u64
-}
-
-/// The flight that is packed at this place, if one is there whole.
-fn flight_at(bytes: &[u8], at: usize) -> Option<Packed<'_>> {
-    let plan_start = at.checked_add(HEAD_BYTES)?;
-    let plan_end = plan_start.checked_add(number_at(bytes, at.saturating_add(7)) as usize)?;
-    let trace_end = plan_end.checked_add(number_at(bytes, at.saturating_add(11)) as usize)?;
-    if trace_end > bytes.len() {
-        return None;
-    }
-    Some(Packed {
-        seed: number_at(bytes, at),
-        letter: byte_at(bytes, at.saturating_add(4)),
-        limit: word_at(bytes, at.saturating_add(5)),
-        plan: &bytes[plan_start..plan_end],
-        trace: &bytes[plan_end..trace_end],
-    })
-}
-
-const HEX: [&str; 16] = [
-    "0", "1", "2", "3", "4", "5", "6", "7", "8", "9", "a", "b", "c", "d", "e", "f",
-];
-
-/// Prints a checksum as eight digits.
-fn show_value(rt: &HostRuntime, value: u32) -> anyhow::Result<()> {
-    let mut scale: u32 = 268_435_456;
-    for _ in 0..8 {
-        let digit = HEX[(value / scale.max(1) % 16) as usize];
-        print!(rt; "{digit}")?;
-        scale /= 16;
-    }
+/// The line of a flight, up to the fault: its head, ticks, checksum.
+fn show(rt: &HostRuntime, head: Head, sum: &Checksum) -> anyhow::Result<()> {
+    let ticks = sum.count.ticks;
+    let value = sum.value;
+    print!(rt; "{head} {ticks} {value:08x} ")?;
     Ok(())
 }
 
-/// The line of a flight: seed, rule, ticks, checksum, and then the fault.
-fn show(rt: &HostRuntime, flight: Packed<'_>, letter: char, sum: &Checksum) -> anyhow::Result<()> {
-    let seed = flight.seed;
-    let ticks = sum.ticks;
-    if letter == 'A' {
-        let limit = flight.limit;
-        print!(rt; "{seed} {letter}:{limit} {ticks} ")?;
-    } else {
-        print!(rt; "{seed} {letter} {ticks} ")?;
-    }
-    show_value(rt, sum.value)
+/// The line of a flight that a fault ends. The listing's line of the fault is in the checksum too.
+fn show_fault<F: Fault>(
+    rt: &HostRuntime,
+    head: Head,
+    mut sum: Checksum,
+    ended: &Placed<F>,
+) -> anyhow::Result<()> {
+    let last = fault_line(rt.alloc(), ended)?;
+    sum.mix(last.as_bytes());
+    show(rt, head, &sum)?;
+    let number = ended.fault.number();
+    let layer = ended.fault.layer();
+    let byte = ended.byte;
+    println!(rt; "{number} {layer} {byte}")?;
+    Ok(())
 }
 
-/// Flies the trace of a flight on its plan, under a rule.
-fn fly<R: DonorRule + Drop>(rt: &HostRuntime, flight: Packed<'_>, rule: R) -> anyhow::Result<()> {
+/// Flies the trace of a flight on its plan, under a rule that may have a limit.
+fn fly<R: DonorRule + Drop>(
+    rt: &HostRuntime,
+    flight: Packed<'_>,
+    limit: Option<u16>,
+    rule: R,
+) -> anyhow::Result<()> {
+    let head = Head {
+        seed: flight.seed,
+        letter: R::LETTER,
+        limit,
+    };
     let mut sum = Checksum::new();
     let mut plan = Plan::new();
     if let Err(fault) = read_plan(flight.plan, &mut plan) {
-        let line = plan_fault_line(rt.alloc(), &fault)?;
-        sum.mix(line.as_bytes());
-        show(rt, flight, R::LETTER, &sum)?;
-        let number = fault.fault.number();
-        let layer = fault.fault.layer().word();
-        let byte = fault.byte;
-        println!(rt; " {number} {layer} {byte}")?;
-        return Ok(());
+        return show_fault(rt, head, sum, &fault);
     }
     let mut executive = Executive::new(&plan, rule);
     let first = header(rt.alloc(), R::LETTER, executive.servers())?;
     sum.mix(first.as_bytes());
-    match play(&mut executive, flight.trace, &mut sum) {
-        Ok(()) => {
-            show(rt, flight, R::LETTER, &sum)?;
-            println!(rt; " -")?;
-        }
-        Err(fault) => {
-            let last = fault_line(rt.alloc(), &fault)?;
-            sum.mix(last.as_bytes());
-            show(rt, flight, R::LETTER, &sum)?;
-            let number = fault.fault.number();
-            let layer = fault.fault.layer().word();
-            let byte = fault.byte;
-            println!(rt; " {number} {layer} {byte}")?;
-        }
+    if let Err(fault) = play(&mut executive, flight.trace, &mut sum) {
+        return show_fault(rt, head, sum, &fault);
     }
+    show(rt, head, &sum)?;
+    println!(rt; "-")?;
     Ok(())
 }
 
 /// Flies a flight under the rule that it names.
 fn fly_packed(rt: &HostRuntime, flight: Packed<'_>) -> anyhow::Result<()> {
-    match flight.letter {
-        b'E' => fly(rt, flight, EarliestFirst),
-        b'N' => fly(rt, flight, Nobody),
-        b'T' => fly(rt, flight, Turns::new()),
-        b'A' => fly(rt, flight, Allowance::new(flight.limit, EarliestFirst)),
-        _ => Err(anyhow!("a flight names no rule that there is")),
+    let rule = flight.rule.context("a flight names no rule that there is")?;
+    // By a `match`, as each rule is another type: one that names its letter by a constant can be no `dyn`.
+    match rule {
+        RuleName::Earliest => fly(rt, flight, None, EarliestFirst),
+        RuleName::Nobody => fly(rt, flight, None, Nobody),
+        RuleName::Turns => fly(rt, flight, None, Turns::new()),
+        RuleName::Allowance(limit) => fly(
+            rt,
+            flight,
+            Some(limit),
+            Allowance::new(limit, EarliestFirst),
+        ),
     }
 }
 
 fn main(rt: HostRuntime) -> anyhow::Result<()> {
     let bytes = fs::read(&rt, "flights.bin")?;
-    let mut at = 0;
+    let mut rest = bytes.as_slice();
+    // A bound on the turns, and no index: every loop ends.
     for _ in 0..MOST_FLIGHTS {
-        if at >= bytes.len() {
+        if rest.is_empty() {
             return Ok(());
         }
-        let Some(flight) = flight_at(bytes.as_slice(), at) else {
-            return Err(anyhow!("the last flight is not there whole"));
-        };
+        let (flight, after) = first_flight(rest).context("the last flight is not there whole")?;
         fly_packed(&rt, flight)?;
-        at = at
-            .saturating_add(HEAD_BYTES)
-            .saturating_add(flight.plan.len())
-            .saturating_add(flight.trace.len());
+        rest = after;
     }
     Err(anyhow!("there are more flights than are flown"))
 }

@@ -3,9 +3,10 @@
 #![tactic(auto)]
 
 use donor::EarliestFirst;
-use executive::{CallFault, Executive, NOBODY};
+use executive::{CallFault, Executive, NOBODY, TickAnswer};
+use faults::Fault;
 use plan::{Kind, Plan, PlanFault, Terms};
-use server::{Phase, Row, Source};
+use server::{Account, Phase, Row, Source};
 use std::io;
 
 const TICKS: u32 = 21;
@@ -43,6 +44,7 @@ fn jobs(executive: &mut Executive<EarliestFirst>, instant: u32) -> Result<(), Ca
     Ok(())
 }
 
+// These words are this program's own, so they are no `Display` of sources and phases.
 fn word_of(source: Source) -> &'static str {
     match source {
         Source::Own => "its own capacity",
@@ -55,17 +57,13 @@ fn word_of(source: Source) -> &'static str {
 
 fn phase_of(phase: Phase) -> &'static str {
     match phase {
-        Phase::Resting => "resting  ",
-        Phase::AtWork => "at work  ",
+        Phase::Resting => "resting",
+        Phase::AtWork => "at work",
         Phase::Supplying => "supplying",
     }
 }
 
-fn show_tick(
-    rt: &HostRuntime,
-    instant: u32,
-    answer: (u16, u16, Source, u32, u16),
-) -> io::Result<()> {
+fn show_tick(rt: &HostRuntime, instant: u32, answer: TickAnswer) -> io::Result<()> {
     let (runner, payer, source, deadline, left) = answer;
     let words = word_of(source);
     if payer == NOBODY {
@@ -84,28 +82,27 @@ fn show_tick(
 fn show_row(rt: &HostRuntime, row: Row) -> io::Result<()> {
     let number = row.number;
     let phase = phase_of(row.phase);
-    let capacity = row.account.capacity;
-    let residual = row.account.residual;
-    let deadline = row.account.deadline;
-    let jobs = row.account.jobs;
+    let Account {
+        capacity,
+        residual,
+        deadline,
+        jobs,
+    } = row.account;
     println!(rt;
-        "    server {number}  {phase}  capacity {capacity}  residual {residual}  deadline {deadline}  jobs {jobs}"
+        "    server {number}  {phase:<9}  capacity {capacity}  residual {residual}  deadline {deadline}  jobs {jobs}"
     )
 }
 
 fn show_rows(rt: &HostRuntime, executive: &Executive<EarliestFirst>) -> io::Result<()> {
-    for server in 0..executive.servers() {
-        if let Some(row) = executive.row(server) {
-            show_row(rt, row)?;
-        }
+    for row in executive.rows() {
+        show_row(rt, *row)?;
     }
     Ok(())
 }
 
 fn show_fault(rt: &HostRuntime, fault: CallFault) -> io::Result<()> {
     let number = fault.number();
-    let sentence = fault.sentence();
-    println!(rt; "refused with {number}: {sentence}")
+    println!(rt; "refused with {number}: {fault}")
 }
 
 /// One instant: the jobs that come, and the tick.
@@ -127,10 +124,7 @@ fn pass(
 fn main(rt: HostRuntime) -> io::Result<()> {
     let plan = match flight() {
         Ok(plan) => plan,
-        Err(fault) => {
-            let sentence = fault.sentence();
-            return println!(rt; "{sentence}");
-        }
+        Err(fault) => return println!(rt; "{fault}"),
     };
     println!(rt; "server 0: the downlink, not isolated, 8 ticks in 20")?;
     println!(rt; "server 1: the shutter, isolated, 2 ticks in 4")?;

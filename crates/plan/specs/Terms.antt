@@ -1,5 +1,7 @@
 -- The terms of one server, their limits and what they weigh.
-use Rattle.std.specs.Prelude.{ℕ, ◌*◌, ◌/◌, ◌%◌, Bool, not, ◌||◌, ◌==◌, nat_lt}
+use Rattle.std.specs.Prelude.{ℕ, ◌*◌, ◌/◌, ◌%◌, Bool, not, ◌||◌, ◌==◌, cond, Ok, Err, Result, nat_lt}
+use Rattle.plan.specs.declared.fault.PlanFault.{PlanFault}
+use Rattle.plan.specs.declared.fault.PlanFault.TheVariants.{Period, Budget}
 use Rattle.plan.specs.declared.terms.Kind.TheVariants.{NonIsolated}
 use Rattle.plan.specs.declared.terms.Terms.{Terms}
 
@@ -18,6 +20,10 @@ bad_period p = p == 0 || not (common_multiple % p == 0)
 -- a budget that no server of this period may have: zero, or above the period
 abbrev pub bad_budget : ℕ → ℕ → Bool
 bad_budget q p = q == 0 || nat_lt p q
+
+-- whether a server may have these terms: if not, the first limit that they break
+abbrev pub checked : Terms → Result (Unit {0}) PlanFault
+checked t = cond (bad_period t.period) (Err Period) (cond (bad_budget t.budget t.period) (Err Budget) (Ok tt))
 
 -- what a server weighs: the ticks that it is owed in one common multiple
 abbrev pub weight_of : Terms → ℕ

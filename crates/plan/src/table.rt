@@ -2,7 +2,7 @@
 ghost use Rattle.std.specs.Prelude.{◌≡◌, ℕ, ◌%◌, ◌<◌, ◌≤◌, length, take, sum_by, slice_index_or};
 ghost use Rattle.plan.specs.Terms.{common_multiple, most_rows, weight_of, blank};
 
-use crate::terms::{Kind, Terms};
+use crate::terms::Terms;
 
 mod calls;
 mod readers;
@@ -10,6 +10,9 @@ mod readers;
 /// How many rows a plan can have.
 pub const MOST_ROWS: usize = 32;
 
+// The rows stand in an array with their count beside it: a plan is `Copy` and needs no heap, and no
+// collection of the library has both. It has no model, as one of a `Copy` type must give back the unused
+// places too; clauses say `rows_of`.
 /// A plan of servers. Its limits are part of the type: there are at most 32 rows, each period divides
 /// the common multiple, each budget is 1 to the period, and the weights add up to no more than the
 /// common multiple.

@@ -1,6 +1,8 @@
 // The terms of one server: its kind, its budget and its period.
 ghost use Rattle.std.specs.Prelude.{◌≡◌};
-ghost use Rattle.plan.specs.Terms.{weight_of, bad_period, bad_budget};
+ghost use Rattle.plan.specs.Terms.{weight_of, bad_period, bad_budget, checked};
+
+use crate::fault::PlanFault;
 
 /// The common multiple of all periods, in ticks: every period divides it, and the weights of a plan
 /// never add up to more.
@@ -38,6 +40,26 @@ pub fn budget_is_bad(budget: u16, period: u16) -> bool
 }
 
 impl Terms {
+    /// The terms of no server, which an unused place of a table holds.
+    pub const BLANK: Terms = Terms {
+        kind: Kind::NonIsolated,
+        budget: 0,
+        period: 0,
+    };
+
+    // Refuses terms that no server may have, for the first limit that they break.
+    pub(crate) fn check(&self) -> Result<(), PlanFault>
+        ensures { result ≡ checked self.now }
+    {
+        if period_is_bad(self.period) {
+            return Err(PlanFault::Period);
+        }
+        if budget_is_bad(self.budget, self.period) {
+            return Err(PlanFault::Budget);
+        }
+        Ok(())
+    }
+
     /// What the server weighs: the ticks that it is owed in one common multiple. A period of zero,
     /// which no plan has, weighs nothing.
     pub fn weight(&self) -> u32

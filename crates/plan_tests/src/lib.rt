@@ -3,6 +3,7 @@
 
 #[cfg(test)]
 mod tests {
+    use faults::Fault;
     use plan::{Kind, Plan, PlanFault, Terms};
     use std::process::Abort;
 

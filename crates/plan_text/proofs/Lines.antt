@@ -1,11 +1,19 @@
--- A text, from its first line on.
-use Rattle.std.proofs.Common.{◌≡◌, ℕ, ◌+◌, ◌<◌, List, [], ◌∷◌, length, drop, Ok, Err, Result, sym, refl, ap, ◌∙◌, arith, length-drop}
+-- The lines of a text, read one after another.
+use Rattle.std.proofs.Common.{◌≡◌, ℕ, Option, Some, None, subst, [], ◌+◌, Bool, false, Bor, List, ◌∷◌, Ok, Err, Result, sym, refl, ap}
+use Rattle.std.specs.Fn.{CalledAt, Mut}
+use Rattle.std.specs.Iterator.Adapters.{enumerate_source, enumerate_count, enumerate_steps}
+use Rattle.std.specs.List.{enumerate_from}
+use Rattle.std.specs.Slice.Iter.{split_rest, split_done, split_callee, split_steps}
+use Rattle.std.specs.declared.iter.Enumerate.{Enumerate}
+use Rattle.std.specs.declared.slice.Split.{Split}
+use Rattle.std.proofs.lemmas.Iterator.{YieldsList}
+use Rattle.std.proofs.lemmas.Iterator.Consumers.{YieldsList-at, YieldsList-from_enumerate}
+use Rattle.std.proofs.lemmas.Iterator.Splits.{YieldsList-from_slice_split}
 use Rattle.plan.specs.declared.terms.Terms.{Terms}
 use Rattle.plan_text.specs.declared.fault.LineFault.{LineFault}
-use Rattle.plan_text.specs.Bytes.{newline, in_line, back}
-use Rattle.plan_text.specs.Words.{lines_of, FirstLine}
+use Rattle.plan_text.specs.Bytes.{newline}
+use Rattle.plan_text.specs.Words.{lines_of}
 use Rattle.plan_text.specs.Reading.{rows_after_line, rows_after_lines, answer_of, rows_or}
-use Rattle.plan_text.proofs.Splitting.{past_cut, split_first}
 
 module _ {E : Type 0} where
   pub err_answer : (x : Result (List Terms) E) (f : E) → Err f ≡ answer_of x → x ≡ Err f
@@ -16,22 +24,25 @@ module _ {E : Type 0} where
   ok_answer (Ok more) rows old e h = cc
   ok_answer (Err g) rows old e h = cc
 
--- a newline at the very end starts no row
-past_newline : (n : ℕ) (rows : List Terms) (bs : List ℕ) → rows_after_lines n rows (past_cut newline bs) ≡ rows_after_lines n rows (lines_of (drop 1 bs))
-past_newline n rows [] = refl
-past_newline n rows (b ∷ bs) = refl
+-- the lines with their numbers, counted from 0, as an iterator gives them
+pub numbered : {F : Type 0} {t s : Enumerate (Split ℕ F)} {r : Split ℕ F} (g : Mut F (Bor ℕ × Unit {0}) Bool) {f : F} (text : List ℕ) → t ≡ s → enumerate_source s ≡ r → enumerate_count s ≡ 0 → split_rest r ≡ text → split_done r ≡ false → split_callee r ≡ f → ((b : ℕ) (x : Bool) (q : F) → CalledAt g f b x q → (q ≡ f) × (x ≡ newline b)) → YieldsList (enumerate_steps (split_steps g)) (λ p. (p.0, p.1.now)) t (enumerate_from 0 (lines_of text))
+numbered g text into source count rest done closure test = YieldsList-at into (YieldsList-from_enumerate (YieldsList-at source (YieldsList-from_slice_split g newline text rest done closure test)) count)
 
-lines_first : (text line rest : List ℕ) → FirstLine text line rest → lines_of text ≡ line ∷ past_cut newline (back in_line text)
-lines_first text line rest h = split_first newline text ∙ ap (λ l. l ∷ past_cut newline (back in_line text)) (sym h.0)
+-- a call of next on an iterator that has these lines left, of which the first has number n
+module _ {S : Type 0} {steps : S → Option (ℕ × Bor (List ℕ)) → S → Type 0} (n : ℕ) where
+  pub next_line : (lines : List (List ℕ)) (s t : S) (o : Option (ℕ × Bor (List ℕ))) (x : ℕ × Bor (List ℕ)) → YieldsList steps (λ p. (p.0, p.1.now)) s (enumerate_from n lines) → o ≡ Some x → steps s o t
+      → (more : List (List ℕ)) × (lines ≡ x.1.now ∷ more) × (n ≡ x.0) × YieldsList steps (λ p. (p.0, p.1.now)) t (enumerate_from (n + 1) more)
+  next_line [] s t o x left is gave = absurd (left.runs x t (subst (λ r. steps s r t) is gave))
+  next_line (line ∷ lines) s t o x left is gave =
+      let read = left.runs.1 x t (subst (λ r. steps s r t) is gave) in
+      (lines, ap (λ p. p.1 ∷ lines) (sym read.0), ap (λ p. p.0) (sym read.0), record { runs = read.1 })
 
-pub line_more : (n : ℕ) (rows more : List Terms) (text line rest : List ℕ) → FirstLine text line rest → rows_after_line rows line ≡ Ok more → rows_after_lines n rows (lines_of text) ≡ rows_after_lines (n + 1) more (lines_of rest)
-line_more n rows more text line rest h is =
-    ap (rows_after_lines n rows) (lines_first text line rest h)
-    ∙ rw (is, rows_after_lines) (past_newline (n + 1) more (back in_line text))
-    ∙ ap (λ bs. rows_after_lines (n + 1) more (lines_of bs)) (sym h.1)
+  pub no_line : (lines : List (List ℕ)) (s t : S) (o : Option (ℕ × Bor (List ℕ))) → YieldsList steps (λ p. (p.0, p.1.now)) s (enumerate_from n lines) → o ≡ None → steps s o t → lines ≡ []
+  no_line [] s t o left is gave = refl
+  no_line (line ∷ lines) s t o left is gave = absurd (left.runs.0 t (subst (λ r. steps s r t) is gave))
 
-pub line_fault : (n : ℕ) (rows : List Terms) (f : LineFault) (text line rest : List ℕ) → FirstLine text line rest → rows_after_line rows line ≡ Err f → rows_after_lines n rows (lines_of text) ≡ Err (record { line = n + 1; fault = f })
-line_fault n rows f text line rest h is = ap (rows_after_lines n rows) (lines_first text line rest h) ∙ rw (is, rows_after_lines)
+pub line_more : (n : ℕ) (rows more : List Terms) (line : List ℕ) (lines : List (List ℕ)) → rows_after_line rows line ≡ Ok more → rows_after_lines n rows (line ∷ lines) ≡ rows_after_lines (n + 1) more lines
+line_more n rows more line lines ok = rw (ok, rows_after_lines) refl
 
-pub line_shorter : (text line rest : List ℕ) → FirstLine text line rest → 0 < length text → length rest < length text
-line_shorter text line rest h some = rw (h.1, length-drop, length-drop) (omega arith)
+pub line_fault : (n : ℕ) (rows : List Terms) (f : LineFault) (line : List ℕ) (lines : List (List ℕ)) → rows_after_line rows line ≡ Err f → rows_after_lines n rows (line ∷ lines) ≡ Err (record { line = n + 1; fault = f })
+line_fault n rows f line lines err = rw (err, rows_after_lines) refl

@@ -2,9 +2,11 @@
 -- whole message; and what is wrong with a plan file.
 use Rattle.std.specs.Prelude.{ℕ, List, ◌++◌, Some, None, codes, decimal, Option}
 use Rattle.plan.specs.Faults.{plan_number, plan_sentence}
-use Rattle.records.specs.declared.fault.Placed.{Placed}
+use Rattle.faults.specs.declared.layer.Layer.{Layer}
+use Rattle.faults.specs.declared.placed.Placed.{Placed}
+use Rattle.faults.specs.Faults.{placed_text}
 use Rattle.records.specs.declared.fault.PlanFileFault.{PlanFileFault}
-use Rattle.records.specs.Faults.{layer_word, file_number, file_layer, file_sentence}
+use Rattle.records.specs.Faults.{file_number, file_layer, file_sentence}
 use Rattle.plan_text.specs.declared.fault.LineFault.{LineFault}
 use Rattle.plan_text.specs.declared.fault.LineFault.TheVariants.{Words, Kind, Number, Refused}
 use Rattle.plan_text.specs.declared.fault.TextFault.{TextFault}
@@ -29,6 +31,11 @@ reason (Some n) sentence = codes ": refusal " ++ (decimal n ++ (codes ": " ++ se
 abbrev pub message_text : TextFault → List ℕ
 message_text f = codes "line " ++ (decimal f.line ++ reason (line_number f.fault) (line_sentence f.fault))
 
--- what is wrong with a plan file: `fault`, the number, the layer and the byte, and the sentence below
+-- what is wrong with a file: `fault`, the number, the layer and the byte, and the sentence below, as the type of the fault
+-- gives them
+abbrev pub placed_message : {F : Type 0} → (F → ℕ) → (F → Layer) → (F → List ℕ) → Placed F → List ℕ
+placed_message number layer sentence f = placed_text number layer f ++ (codes "\n" ++ sentence f.fault)
+
+-- what is wrong with a plan file
 abbrev pub fault_text : Placed PlanFileFault → List ℕ
-fault_text f = codes "fault " ++ (decimal (file_number f.fault) ++ (codes " " ++ (layer_word (file_layer f.fault) ++ (codes " " ++ (decimal f.byte ++ (codes "\n" ++ file_sentence f.fault))))))
+fault_text f = placed_message file_number file_layer file_sentence f

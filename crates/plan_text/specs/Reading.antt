@@ -1,5 +1,5 @@
 -- What a written plan means: a row to a line, added in order to a plan with no rows.
-use Rattle.std.specs.Prelude.{ℕ, ◌+◌, cond, not, ◌||◌, List, [], ◌∷◌, ◌++◌, length, Some, None, Ok, Err, Option, Result, ◌==◌}
+use Rattle.std.specs.Prelude.{ℕ, ◌+◌, List, [], ◌∷◌, ◌++◌, Some, None, Ok, Err, Option, Result}
 use Rattle.plan.specs.declared.fault.PlanFault.{PlanFault}
 use Rattle.plan.specs.declared.terms.Kind.{Kind}
 use Rattle.plan.specs.declared.terms.Terms.{Terms}
@@ -27,12 +27,13 @@ terms_of (k ∷ q ∷ []) = Err Words
 terms_of (k ∷ q ∷ t ∷ []) = terms_from (kind_of k) (number_of q) (number_of t)
 terms_of (k ∷ q ∷ t ∷ u ∷ more) = Err Words
 
--- the same, by the first four words, where a word that is not there is empty
-abbrev pub terms_of_four : List ℕ → List ℕ → List ℕ → List ℕ → Result (Option Terms) LineFault
-terms_of_four k q t u =
-    cond (length k == 0) (Ok None)
-    (cond (length q == 0 || (length t == 0 || not (length u == 0))) (Err Words)
-    (terms_from (kind_of k) (number_of q) (number_of t)))
+-- the same, by the first four words, each of them taken if there is one
+abbrev pub terms_of_taken : Option (List ℕ) → Option (List ℕ) → Option (List ℕ) → Option (List ℕ) → Result (Option Terms) LineFault
+terms_of_taken None q t u = Ok None
+terms_of_taken (Some k) None t u = Err Words
+terms_of_taken (Some k) (Some q) None u = Err Words
+terms_of_taken (Some k) (Some q) (Some t) None = terms_from (kind_of k) (number_of q) (number_of t)
+terms_of_taken (Some k) (Some q) (Some t) (Some u) = Err Words
 
 -- the rows with one more at the end, if the plan has no reason to refuse it
 abbrev pub rows_adding : Option PlanFault → List Terms → Terms → Result (List Terms) LineFault

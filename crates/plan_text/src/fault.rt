@@ -1,8 +1,11 @@
 // What can be wrong with a written plan, case by case.
-ghost use Rattle.std.specs.Prelude.{◌≡◌};
+ghost use Rattle.std.specs.Prelude.{◌≡◌, Some};
+ghost use Rattle.plan_text.specs.declared.fault.LineFault.TheVariants.{Refused};
 ghost use Rattle.plan_text.specs.Faults.{line_number, line_sentence};
 
+use faults::Fault;
 use plan::PlanFault;
+use std::fmt;
 
 /// What is wrong with one line.
 #[derive(Clone, Copy, PartialEq, Eq, Debug)]
@@ -24,6 +27,16 @@ pub struct TextFault {
     pub fault: LineFault,
 }
 
+// By hand and not derived: `from_gives` says which fault a `?` makes, and clauses name it.
+impl From<PlanFault> for LineFault {
+    ghost from_gives = { λ f r. r ≡ Refused f };
+
+    fn from(fault: PlanFault) -> LineFault {
+        LineFault::Refused(fault)
+    }
+}
+
+// No `Fault`: a line that is not understood has no number.
 impl LineFault {
     /// The number of the refusal, if the plan refuses the row. A line that is not understood has none.
     pub fn number(&self) -> Option<u8>
@@ -47,5 +60,14 @@ impl LineFault {
             LineFault::Number => "the budget and the period must be whole numbers of ticks",
             LineFault::Refused(refusal) => refusal.sentence(),
         }
+    }
+}
+
+/// What is wrong is shown by its sentence.
+impl fmt::Display for LineFault {
+    ghost output = { λ fault. Some (line_sentence fault) };
+
+    fn fmt<W: fmt::Write>(&self, f: &mut fmt::Formatter<W>) -> fmt::Result {
+        f.write_str(self.sentence())
     }
 }

@@ -1,10 +1,8 @@
 //! A plan as text: reading one that a person wrote, and showing one as a table.
 #![tactic(auto)]
 
-mod columns;
 pub mod fault;
 mod reading;
-mod scan;
 mod showing;
 mod words;
 

@@ -7,10 +7,11 @@ use plan::Plan;
 use plan_text::{fault_message, message, parse_plan, table};
 use records::writing::MOST_PLAN_BYTES;
 use records::{read_plan, write_plan};
+use std::fmt::Display;
 use std::fs::File;
 use std::io::Read;
 use std::process::ExitCode;
-use std::{env, fs};
+use std::{env, fs, io};
 
 const USAGE: &str = "usage:
   planner pack TEXT FILE   pack the written plan TEXT into the plan file FILE, read it back and show it
@@ -24,31 +25,29 @@ of a quarter of a millisecond. '#' starts a comment.
 /// Longer files are not read: the longest plan file has 129 bytes.
 const MOST_BYTES: usize = 1_048_576;
 
+// `fail`, `first_bytes`, `run_words` and `main` are much like those of `durashem`: see there.
 /// Says what is wrong on standard error, and ends the program with status 1.
-fn fail<T>(rt: &HostRuntime, why: &str) -> anyhow::Result<T> {
+fn fail<T, W: Display + Drop>(rt: &HostRuntime, why: W) -> anyhow::Result<T> {
     eprintln!(rt; "{why}")?;
     Err(anyhow!("the planner could not do it"))
 }
 
+/// The first bytes of a file, and one more where it is longer than is read.
+fn first_bytes(rt: &HostRuntime, path: &str) -> io::Result<Vec<u8>> {
+    let mut bytes = Vec::new(rt.alloc());
+    File::open(rt, path)?
+        .take(MOST_BYTES as u64 + 1)
+        .read_to_end(&mut bytes)?;
+    Ok(bytes)
+}
+
 /// The bytes of a file.
 fn bytes_of(rt: &HostRuntime, path: &str) -> anyhow::Result<Vec<u8>> {
-    let mut bytes = Vec::new(rt.alloc());
-    let file = match File::open(rt, path) {
-        Ok(file) => file,
-        Err(why) => {
-            let text = format!(in rt.alloc(); "cannot read {path}: {why}")?;
-            return fail(rt, text.as_str());
-        }
-    };
-    if let Err(why) = file.take(MOST_BYTES as u64 + 1).read_to_end(&mut bytes) {
-        let text = format!(in rt.alloc(); "cannot read {path}: {why}")?;
-        return fail(rt, text.as_str());
+    match first_bytes(rt, path) {
+        Ok(bytes) if bytes.len() <= MOST_BYTES => Ok(bytes),
+        Ok(_) => fail(rt, format_args!("{path} is longer than {MOST_BYTES} bytes")),
+        Err(why) => fail(rt, format_args!("cannot read {path}: {why}")),
     }
-    if bytes.len() > MOST_BYTES {
-        let text = format!(in rt.alloc(); "{path} is longer than {MOST_BYTES} bytes")?;
-        return fail(rt, text.as_str());
-    }
-    Ok(bytes)
 }
 
 /// The plan in a plan file, with its table on standard output.
@@ -56,8 +55,7 @@ fn show(rt: &HostRuntime, path: &str) -> anyhow::Result<Plan> {
     let bytes = bytes_of(rt, path)?;
     let mut plan = Plan::new();
     if let Err(fault) = read_plan(bytes.as_slice(), &mut plan) {
-        let text = fault_message(rt.alloc(), &fault)?;
-        return fail(rt, text.as_str());
+        return fail(rt, fault_message(rt.alloc(), &fault)?);
     }
     let text = table(rt.alloc(), &plan, bytes.len())?;
     print!(rt; "{text}")?;
@@ -69,8 +67,7 @@ fn written(rt: &HostRuntime, path: &str) -> anyhow::Result<Plan> {
     let bytes = bytes_of(rt, path)?;
     let mut plan = Plan::new();
     if let Err(fault) = parse_plan(bytes.as_slice(), &mut plan) {
-        let text = message(rt.alloc(), &fault)?;
-        return fail(rt, text.as_str());
+        return fail(rt, message(rt.alloc(), &fault)?);
     }
     Ok(plan)
 }
@@ -80,25 +77,17 @@ fn store(rt: &HostRuntime, path: &str, plan: &Plan) -> anyhow::Result<()> {
     let mut buffer = [0u8; MOST_PLAN_BYTES];
     let length = match write_plan(plan, &mut buffer) {
         Ok(length) => length,
-        Err(fault) => {
-            let text = fault_message(rt.alloc(), &fault)?;
-            return fail(rt, text.as_str());
-        }
+        Err(fault) => return fail(rt, fault_message(rt.alloc(), &fault)?),
     };
     if let Err(why) = fs::write(rt, path, &buffer[0..length]) {
-        let text = format!(in rt.alloc(); "cannot write {path}: {why}")?;
-        return fail(rt, text.as_str());
+        return fail(rt, format_args!("cannot write {path}: {why}"));
     }
     Ok(())
 }
 
-fn same(text: &str, file: &str) -> bool {
-    text == file
-}
-
 /// Packs a written plan into a plan file, and shows what the file then holds.
 fn pack(rt: &HostRuntime, text: &str, file: &str) -> anyhow::Result<()> {
-    if same(text, file) {
+    if text == file {
         return fail(
             rt,
             "TEXT and FILE are the same: the written plan would be lost",
@@ -114,24 +103,25 @@ fn pack(rt: &HostRuntime, text: &str, file: &str) -> anyhow::Result<()> {
     Ok(())
 }
 
-fn run(rt: &HostRuntime, words: &[String]) -> anyhow::Result<()> {
-    if words.len() == 4 && words[1].as_str() == "pack" {
-        return pack(rt, words[2].as_str(), words[3].as_str());
+fn run(rt: &HostRuntime, words: &[&str]) -> anyhow::Result<()> {
+    match words {
+        ["pack", text, file] => pack(rt, text, file),
+        ["show", file] => {
+            show(rt, file)?;
+            Ok(())
+        }
+        ["help"] => {
+            print!(rt; "{USAGE}")?;
+            Ok(())
+        }
+        _ => fail(rt, USAGE),
     }
-    if words.len() == 3 && words[1].as_str() == "show" {
-        show(rt, words[2].as_str())?;
-        return Ok(());
-    }
-    if words.len() == 2 && words[1].as_str() == "help" {
-        print!(rt; "{USAGE}")?;
-        return Ok(());
-    }
-    fail(rt, USAGE)
 }
 
-/// Does what the command line asks for.
+/// Does what the command line asks for. Its first word is the program's own.
 fn run_words(rt: &HostRuntime) -> anyhow::Result<()> {
-    let words: Vec<String> = env::args(rt)?.collect(rt.alloc())?;
+    let words: Vec<String> = env::args(rt)?.skip(1).collect(rt.alloc())?;
+    let words: Vec<&str> = words.iter().map(|word| word.as_str()).collect(rt.alloc())?;
     run(rt, words.as_slice())
 }
 

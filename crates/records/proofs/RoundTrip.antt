@@ -1,7 +1,6 @@
 -- The packed form of a plan reads back as that plan, row by row.
 use Rattle.std.proofs.Common.{◌≡◌, ℕ, ◌+◌, ◌*◌, ◌/◌, ◌%◌, ◌^◌, ◌<◌, ◌≤◌, true, false, eqb, ltb, List, [], ◌∷◌, ◌++◌, length, get_or, None, Ok, sym, refl, ap, ◌∙◌, append_assoc, arith, length-append}
 use Rattle.std.specs.List.{flat_map, AllByRecursion}
-use Rattle.std.proofs.lemmas.Nat.{div-mul-add, mod-mul-add}
 use Rattle.std.proofs.lemmas.List.{get_or-append-add, append-nil, length_push, length-take}
 use Rattle.std.proofs.lemmas.List.Sums.{sum_by-cons, sum_by_push}
 use Rattle.std.proofs.lemmas.Bool.{le-leb, eq-eqb, le-ltb}
@@ -10,27 +9,15 @@ use Rattle.bits.proofs.Fields.{byte_field}
 use Rattle.plan.specs.declared.table.Plan.{Plan}
 use Rattle.plan.specs.declared.terms.Terms.{Terms}
 use Rattle.plan.specs.Terms.{common_multiple, most_rows, weight_of}
-use Rattle.plan.specs.Plan.{rows_of, load_of, answer_for, rows_for, refusal}
+use Rattle.plan.specs.Plan.{rows_of, load_of, refusal}
 use Rattle.plan.proofs.Adding.{Sound, takes_sound, period_le, rows_sound}
 use Rattle.records.specs.Packed.{kind_bit, kind_of, row_word, packed_row, packed_plan}
-use Rattle.records.specs.PlanFile.{row_read, row_taken, onward, rows_from, in_file, count_read, plan_read}
+use Rattle.records.specs.PlanFile.{row_read, row_given, row_taken, onward, rows_from, in_file, count_read, plan_read}
 use Rattle.records.proofs.Rows.{field, field_below, word_of_bytes, field_of_bytes, field_of_row, kind_kept, kind_below}
-use Rattle.records.proofs.Taken.{row_added}
 
--- a number tells its last digit and what stands before it
-same_digits : (a b c d w : ℕ) → b < w → d < w → a * w + b ≡ c * w + d → (a ≡ c) × (b ≡ d)
-same_digits a b c d w hb hd e = (
-  sym (div-mul-add a w b hb) ∙ ap (λ (n : ℕ). n / w) e ∙ div-mul-add c w d hd,
-  sym (mod-mul-add a w b hb) ∙ ap (λ (n : ℕ). n % w) e ∙ mod-mul-add c w d hd,
-)
-
--- so four fields in their bounds are told by the number that they make
+-- four fields in their bounds are told by the number that they make
 same_fields : (k z q t kind budget period : ℕ) → ((k * 2 ^ 3 + z) * 2 ^ 14 + q) * 2 ^ 14 + t ≡ ((kind * 2 ^ 3 + 0) * 2 ^ 14 + budget) * 2 ^ 14 + period → z < 2 ^ 3 → q < 2 ^ 14 → t < 2 ^ 14 → budget < 2 ^ 14 → period < 2 ^ 14 → (k ≡ kind) × (z ≡ 0) × (q ≡ budget) × (t ≡ period)
-same_fields k z q t kind budget period e hz hq ht hb hp =
-    let last = same_digits ((k * 2 ^ 3 + z) * 2 ^ 14 + q) t ((kind * 2 ^ 3 + 0) * 2 ^ 14 + budget) period (2 ^ 14) ht hp e in
-    let middle = same_digits (k * 2 ^ 3 + z) q (kind * 2 ^ 3 + 0) budget (2 ^ 14) hq hb last.0 in
-    let first = same_digits k z kind 0 (2 ^ 3) hz (omega arith) middle.0 in
-    (first.0, first.1, middle.1, last.1)
+same_fields k z q t kind budget period e hz hq ht hb hp = (omega arith, omega arith, omega arith, omega arith)
 
 same_terms : (t : Terms) (k q p : ℕ) → k ≡ kind_bit t.kind → q ≡ t.budget → p ≡ t.period → ◌≡◌ {A = Terms} (record { kind = kind_of k; budget = q; period = p }) t
 same_terms t k q p kinds budgets periods = rw (kinds, budgets, periods, kind_kept)
@@ -86,8 +73,7 @@ pub record Fit (before more : List Terms) : Type 0 where
 takes_row : (front back : List ℕ) (t : Terms) (before more : List Terms) → Fit before (t ∷ more) → row_taken (front ++ (packed_row t ++ back)) (length front) before ≡ Ok (before ++ (t ∷ []))
 takes_row front back t before more fit =
     let none : refusal before t ≡ None = takes_sound before t (omega (arith, fit.few)) fit.sound.0 (omega (arith, fit.light, sum_by-cons weight_of t more)) in
-    row_added (front ++ (packed_row t ++ back)) (length front) before t (length before) (sym (reads_row front t back fit.sound.0)) (sym (ap (λ o. answer_for o before) none))
-    ∙ ap (λ o. Ok (rows_for o before t)) none
+    ap (λ r. row_given r before) (reads_row front t back fit.sound.0) ∙ rw none
 
 fits_rest : (t : Terms) (before more : List Terms) → Fit before (t ∷ more) → Fit (before ++ (t ∷ [])) more
 fits_rest t before more fit = record {

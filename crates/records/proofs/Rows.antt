@@ -1,7 +1,6 @@
 -- A row's 32 bits, seen as four bytes and seen as four fields, are one number.
 use Rattle.std.proofs.Common.{◌≡◌, ℕ, zero, suc, ◌+◌, ◌*◌, ◌/◌, ◌%◌, ◌^◌, ◌<◌, ◌≤◌, List, [], ◌∷◌, ◌++◌, length, get_or, drop, sym, refl, ap, ◌∙◌, arith}
 use Rattle.std.proofs.lemmas.List.{drop_more}
-use Rattle.std.proofs.lemmas.Nat.{div-mul-add, mod-mul-add}
 use Rattle.bits.specs.Fields.{field_at}
 use Rattle.bits.proofs.Fields.{field_split, field_lt, byte_field}
 use Rattle.plan.specs.declared.terms.Kind.{Kind}
@@ -21,7 +20,7 @@ pub field_below : (b : List ℕ) (p n : ℕ) → field b p n < 2 ^ n
 unfolding field
 field_below b p n = field_lt b p n
 
-byte_at : (b : List ℕ) (k : ℕ) → get_or b k 0 < 256 → field b (8 * k) 8 ≡ get_or b k 0
+pub byte_at : (b : List ℕ) (k : ℕ) → get_or b k 0 < 256 → field b (8 * k) 8 ≡ get_or b k 0
 unfolding field
 byte_at b k small = byte_field b k small
 
@@ -55,13 +54,10 @@ module _ (b : List ℕ) (k : ℕ) where
 pub bytes_of_word : (w x y z : ℕ) → w < 256 → x < 256 → y < 256 → z < 256 → bytes_of 4 (word w x y z) ≡ w ∷ x ∷ y ∷ z ∷ []
 bytes_of_word w x y z hw hx hy hz =
     let n = word w x y z in
-    let q₁ : n / 256 ≡ (w * 256 + x) * 256 + y = div-mul-add ((w * 256 + x) * 256 + y) 256 z hz in
-    let q₂ : n / 256 / 256 ≡ w * 256 + x = rw q₁ (div-mul-add (w * 256 + x) 256 y hy) in
-    let q₃ : n / 256 / 256 / 256 ≡ w = rw q₂ (div-mul-add w 256 x hx) in
-    let d : n % 256 ≡ z = mod-mul-add ((w * 256 + x) * 256 + y) 256 z hz in
-    let c : n / 256 % 256 ≡ y = rw q₁ (mod-mul-add (w * 256 + x) 256 y hy) in
-    let b : n / 256 / 256 % 256 ≡ x = rw q₂ (mod-mul-add w 256 x hx) in
-    let a : n / 256 / 256 / 256 % 256 ≡ w = rw q₃ (omega arith) in
+    let d : n % 256 ≡ z = omega arith in
+    let c : n / 256 % 256 ≡ y = omega arith in
+    let b : n / 256 / 256 % 256 ≡ x = omega arith in
+    let a : n / 256 / 256 / 256 % 256 ≡ w = omega arith in
     rw (d, c, b, a)
 
 pub word_of_bytes : (n : ℕ) → n < 2 ^ 32 → word (n / 256 / 256 / 256 % 256) (n / 256 / 256 % 256) (n / 256 % 256) (n % 256) ≡ n

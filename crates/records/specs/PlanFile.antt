@@ -9,7 +9,7 @@ use Rattle.records.specs.declared.fault.RecordsFault.{RecordsFault}
 use Rattle.records.specs.declared.fault.RecordsFault.TheVariants.{Bits, ZeroBits, Trailing, Buffer}
 use Rattle.records.specs.declared.fault.PlanFileFault.{PlanFileFault}
 use Rattle.records.specs.declared.fault.PlanFileFault.TheVariants.{Records, Plan}
-use Rattle.records.specs.declared.fault.Placed.{Placed}
+use Rattle.faults.specs.declared.placed.Placed.{Placed}
 use Rattle.records.specs.Packed.{kind_of, packed_plan, packed_length}
 
 -- the number of rows that a file announces: its first byte

@@ -1,20 +1,14 @@
 // Faults on their way up: from the bits through the records to the plan, each layer with its own type.
-ghost use Rattle.std.specs.Prelude.{◌≡◌};
+ghost use Rattle.std.specs.Prelude.{◌≡◌, Some};
 ghost use Rattle.records.specs.declared.fault.RecordsFault.TheVariants.{Bits};
 ghost use Rattle.records.specs.declared.fault.PlanFileFault.TheVariants.{Records, Plan};
-ghost use Rattle.records.specs.Faults.{layer_word, records_number, records_layer, records_sentence, file_number, file_layer, file_sentence, placed_at};
+ghost use Rattle.records.specs.Faults.{records_number, records_layer, records_sentence, file_number, file_layer, file_sentence};
 
 use bits::BitsFault;
+use faults::Fault;
+pub use faults::{Layer, Placed, located};
 use plan::PlanFault;
-
-/// The layer that finds a fault.
-#[derive(Clone, Copy, PartialEq, Eq, Debug)]
-pub enum Layer {
-    Bits,
-    Records,
-    Plan,
-    Executive,
-}
+use std::fmt;
 
 /// What is wrong with a record, or with the room for it.
 #[derive(Clone, Copy, PartialEq, Eq, Debug)]
@@ -38,13 +32,7 @@ pub enum PlanFileFault {
     Plan(PlanFault),
 }
 
-/// A fault with the byte where the faulty record begins.
-#[derive(Clone, Copy, PartialEq, Eq, Debug)]
-pub struct Placed<F> {
-    pub fault: F,
-    pub byte: usize,
-}
-
+// By hand and not derived: `from_gives` says which fault a `?` makes, and clauses name it.
 impl From<BitsFault> for RecordsFault {
     ghost from_gives = { λ f r. r ≡ Bits f };
 
@@ -69,35 +57,14 @@ impl From<PlanFault> for PlanFileFault {
     }
 }
 
-/// Tells where a fault lies, if there is one.
-pub fn located<T, F>(res: Result<T, F>, byte: usize) -> Result<T, Placed<F>>
-    ensures { result ≡ placed_at res byte }
-{
-    match res {
-        Ok(value) => Ok(value),
-        Err(fault) => Err(Placed { fault, byte }),
-    }
-}
+impl Fault for RecordsFault {
+    ghost number = { records_number };
 
-impl Layer {
-    /// The layer's word.
-    pub fn word(&self) -> &'static str
-        ensures { result.now ≡ layer_word self.now }
-    {
-        match self {
-            Layer::Bits => "bits",
-            Layer::Records => "records",
-            Layer::Plan => "plan",
-            Layer::Executive => "executive",
-        }
-    }
-}
+    ghost layer = { records_layer };
 
-impl RecordsFault {
-    /// The number of this fault.
-    pub fn number(&self) -> u8
-        ensures { result ≡ records_number self.now }
-    {
+    ghost sentence = { records_sentence };
+
+    fn number(&self) -> u8 {
         match self {
             RecordsFault::Bits(fault) => fault.number(),
             RecordsFault::ZeroBits => 6,
@@ -107,12 +74,9 @@ impl RecordsFault {
         }
     }
 
-    /// The layer that found it.
-    pub fn layer(&self) -> Layer
-        ensures { result ≡ records_layer self.now }
-    {
+    fn layer(&self) -> Layer {
         match self {
-            RecordsFault::Bits(_) => Layer::Bits,
+            RecordsFault::Bits(fault) => fault.layer(),
             RecordsFault::ZeroBits
             | RecordsFault::Trailing
             | RecordsFault::Buffer
@@ -120,10 +84,7 @@ impl RecordsFault {
         }
     }
 
-    /// The same in words.
-    pub fn sentence(&self) -> &'static str
-        ensures { result.now ≡ records_sentence self.now }
-    {
+    fn sentence(&self) -> &'static str {
         match self {
             RecordsFault::Bits(fault) => fault.sentence(),
             RecordsFault::ZeroBits => "a zero bit of a row is set",
@@ -135,34 +96,52 @@ impl RecordsFault {
     }
 }
 
-impl PlanFileFault {
-    /// The number of this fault.
-    pub fn number(&self) -> u8
-        ensures { result ≡ file_number self.now }
-    {
+impl Fault for PlanFileFault {
+    ghost number = { file_number };
+
+    ghost layer = { file_layer };
+
+    ghost sentence = { file_sentence };
+
+    fn number(&self) -> u8 {
         match self {
             PlanFileFault::Records(fault) => fault.number(),
             PlanFileFault::Plan(fault) => fault.number(),
         }
     }
 
-    /// The layer that found it.
-    pub fn layer(&self) -> Layer
-        ensures { result ≡ file_layer self.now }
-    {
+    fn layer(&self) -> Layer {
         match self {
             PlanFileFault::Records(fault) => fault.layer(),
-            PlanFileFault::Plan(_) => Layer::Plan,
+            PlanFileFault::Plan(fault) => fault.layer(),
         }
     }
 
-    /// The same in words.
-    pub fn sentence(&self) -> &'static str
-        ensures { result.now ≡ file_sentence self.now }
-    {
+    fn sentence(&self) -> &'static str {
         match self {
             PlanFileFault::Records(fault) => fault.sentence(),
             PlanFileFault::Plan(fault) => fault.sentence(),
+        }
+    }
+}
+
+/// What is wrong is shown by its sentence.
+impl fmt::Display for RecordsFault {
+    ghost output = { λ fault. Some (records_sentence fault) };
+
+    fn fmt<W: fmt::Write>(&self, f: &mut fmt::Formatter<W>) -> fmt::Result {
+        f.write_str(self.sentence())
+    }
+}
+
+/// A plan file's fault is shown as its cause is.
+impl fmt::Display for PlanFileFault {
+    ghost output = { λ fault. Some (file_sentence fault) };
+
+    fn fmt<W: fmt::Write>(&self, f: &mut fmt::Formatter<W>) -> fmt::Result {
+        match self {
+            PlanFileFault::Records(fault) => fault.fmt(f),
+            PlanFileFault::Plan(fault) => fault.fmt(f),
         }
     }
 }

@@ -5,27 +5,22 @@ ghost use Rattle.records.specs.Packed.{kind_of, packed_plan};
 ghost use Rattle.records.specs.PlanFile.{count_read, in_file, row_read, row_taken, rows_from, plan_read, answer_of, rows_left};
 
 use crate::fault::{Placed, PlanFileFault, RecordsFault, located};
-use crate::layout::{COUNT, KIND, TICKS, ZEROS};
-use bits::{Place, read_field};
+use crate::layout::{COUNT, KIND, ROW_BYTES, TICKS, ZEROS};
+use bits::FieldReader;
 use plan::{Kind, Plan, Terms};
 
 // The number of rows that the file announces.
-fn read_count(bytes: &[u8]) -> Result<u8, RecordsFault>
-    ensures { result ≡ count_read bytes.now }
+fn read_count(bytes: &[u8]) -> Result<u8, PlanFileFault>
+    ensures { result ≡ in_file (count_read bytes.now) }
 {
-    let mut at = Place::at_byte(0);
-    let count = read_field(bytes, &mut at, COUNT)?;
+    // A `?` goes one layer up, and a fault of these bits goes two.
+    let count = FieldReader::at_byte(bytes, 0)
+        .read(COUNT)
+        .map_err(RecordsFault::Bits)?;
     Ok(count as u8)
 }
 
-// The same, with a fault as one of the file.
-fn count_in_file(bytes: &[u8]) -> Result<u8, PlanFileFault>
-    ensures { result ≡ in_file (count_read bytes.now) }
-{
-    Ok(read_count(bytes)?)
-}
-
-// The kind that a bit tells.
+// The kind that a bit tells. It is no `From`, since neither a kind nor a number is a type of this crate.
 fn kind_of(bit: u32) -> Kind
     ensures { result ≡ kind_of bit }
 {
@@ -40,11 +35,11 @@ fn kind_of(bit: u32) -> Kind
 fn read_row(bytes: &[u8], byte: usize) -> Result<Terms, RecordsFault>
     ensures { result ≡ row_read bytes.now byte }
 {
-    let mut at = Place::at_byte(byte);
-    let kind = read_field(bytes, &mut at, KIND)?;
-    let zeros = read_field(bytes, &mut at, ZEROS)?;
-    let budget = read_field(bytes, &mut at, TICKS)?;
-    let period = read_field(bytes, &mut at, TICKS)?;
+    let mut fields = FieldReader::at_byte(bytes, byte);
+    let kind = fields.read(KIND)?;
+    let zeros = fields.read(ZEROS)?;
+    let budget = fields.read(TICKS)?;
+    let period = fields.read(TICKS)?;
     if zeros != 0 {
         return Err(RecordsFault::ZeroBits);
     }
@@ -70,13 +65,15 @@ fn take_rows(bytes: &[u8], count: u8, plan: &mut Plan) -> Result<(), Placed<Plan
     ensures answer { result ≡ answer_of (rows_from bytes.now 1 count (rows_of plan.old)) }
     ensures rows { OnOk result (rows_of plan.new ≡ rows_left (rows_from bytes.now 1 count (rows_of plan.old)) []) }
 {
+    // By the number of the row: a loop by `step_by` over the bytes ends in two places, and each would
+    // need the proof of its last turn again.
     for k in 0..count {
-        let byte = 1 + 4 * k as usize;
+        let byte = 1 + ROW_BYTES * k as usize;
         located(take_row(bytes, byte, plan), byte)?;
     }
-    let end = 1 + 4 * count as usize;
+    let end = 1 + ROW_BYTES * count as usize;
     if end < bytes.len() {
-        return located(Err(PlanFileFault::Records(RecordsFault::Trailing)), end);
+        return located(Err(RecordsFault::Trailing.into()), end);
     }
     Ok(())
 }
@@ -90,7 +87,7 @@ pub fn read_plan(bytes: &[u8], plan: &mut Plan) -> Result<(), Placed<PlanFileFau
     ensures one_file { OnOk result (bytes.now ≡ packed_plan (rows_of plan.new)) }
 {
     let mut fresh = Plan::new();
-    let count = located(count_in_file(bytes), 0)?;
+    let count = located(read_count(bytes), 0)?;
     take_rows(bytes, count, &mut fresh)?;
     *plan = fresh;
     Ok(())

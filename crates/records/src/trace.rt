@@ -4,7 +4,7 @@ ghost use Rattle.records.specs.Trace.{record_of, record_read};
 
 use crate::fault::RecordsFault;
 use crate::layout::{ARGUMENT, TRACE_KIND};
-use bits::{Place, read_field};
+use bits::FieldReader;
 
 /// A record of a trace.
 #[derive(Clone, Copy, PartialEq, Eq, Debug)]
@@ -24,24 +24,20 @@ pub const RECORD_BYTES: usize = 2;
 fn record_of(kind: u32, argument: u16) -> Result<TraceRecord, RecordsFault>
     ensures { result ≡ record_of kind argument }
 {
-    if kind == 0 && argument != 0 {
-        return Ok(TraceRecord::Ticks(argument));
+    match (kind, argument) {
+        (0, 1..) => Ok(TraceRecord::Ticks(argument)),
+        (1, _) => Ok(TraceRecord::Arrival(argument)),
+        (2, 0) => Ok(TraceRecord::Finish),
+        _ => Err(RecordsFault::Trace),
     }
-    if kind == 1 {
-        return Ok(TraceRecord::Arrival(argument));
-    }
-    if kind == 2 && argument == 0 {
-        return Ok(TraceRecord::Finish);
-    }
-    Err(RecordsFault::Trace)
 }
 
 /// The record of a trace that begins at this byte.
 pub fn read_record(bytes: &[u8], byte: usize) -> Result<TraceRecord, RecordsFault>
     ensures { result ≡ record_read bytes.now byte }
 {
-    let mut at = Place::at_byte(byte);
-    let kind = read_field(bytes, &mut at, TRACE_KIND)?;
-    let argument = read_field(bytes, &mut at, ARGUMENT)?;
+    let mut fields = FieldReader::at_byte(bytes, byte);
+    let kind = fields.read(TRACE_KIND)?;
+    let argument = fields.read(ARGUMENT)?;
     record_of(kind, argument as u16)
 }

@@ -6,22 +6,22 @@ ghost use Rattle.records.specs.Packed.{kind_bit, packed_row, packed_plan, packed
 ghost use Rattle.records.specs.PlanFile.{plan_read, plan_written, buffer_after};
 
 use crate::fault::{Placed, PlanFileFault, RecordsFault, located};
-use crate::layout::{COUNT, KIND, TICKS, ZEROS};
+use crate::layout::{COUNT, KIND, ROW_BYTES, TICKS, ZEROS};
 use bits::{Place, Width, write_field};
 use plan::table::MOST_ROWS;
 use plan::{Kind, Plan, Terms};
 
 /// How many bytes the longest plan file has.
-pub const MOST_PLAN_BYTES: usize = 1 + 4 * MOST_ROWS;
+pub const MOST_PLAN_BYTES: usize = 1 + ROW_BYTES * MOST_ROWS;
 
 /// How many bytes the packed form of a plan has.
 pub fn packed_length(plan: &Plan) -> usize
     ensures { result ≡ packed_length (length (rows_of plan.now)) }
 {
-    1 + 4 * plan.count() as usize
+    1 + ROW_BYTES * plan.count() as usize
 }
 
-// The bit that tells a kind.
+// The bit that tells a kind. It is no `From`, since neither a kind nor a number is a type of this crate.
 fn kind_bit(kind: Kind) -> u32
     ensures { result ≡ kind_bit kind }
 {
@@ -69,9 +69,8 @@ fn put_plan(plan: &Plan, buffer: &mut [u8])
     ensures { buffer.new ≡ packed_plan (rows_of plan.now) ++ drop (packed_length (length (rows_of plan.now))) buffer.old }
 {
     put_count(buffer, plan.count());
-    let rows = plan.rows();
-    for k in 0..rows.len() {
-        put_row(buffer, 1 + 4 * k, rows[k]);
+    for (k, terms) in plan.rows().iter().enumerate() {
+        put_row(buffer, 1 + ROW_BYTES * k, *terms);
     }
 }
 
@@ -85,7 +84,7 @@ pub fn write_plan(plan: &Plan, buffer: &mut [u8]) -> Result<usize, Placed<PlanFi
 {
     let length = packed_length(plan);
     if buffer.len() < length {
-        return located(Err(PlanFileFault::Records(RecordsFault::Buffer)), 0);
+        return located(Err(RecordsFault::Buffer.into()), 0);
     }
     put_plan(plan, buffer);
     Ok(length)

@@ -3,60 +3,52 @@
 
 #[cfg(test)]
 mod tests {
+    use faults::Fault;
     use plan::{Kind, Plan, Terms};
     use records::{Layer, Placed, PlanFileFault, packed_length, read_plan, write_plan};
     use std::process::Abort;
     use std::test::Fail;
 
-    // 0 non-isolated (2, 5), 1 isolated (4, 10), 2 isolated (3, 15)
+    const FIRST: Terms = Terms {
+        kind: Kind::NonIsolated,
+        budget: 2,
+        period: 5,
+    };
+
+    const SECOND: Terms = Terms {
+        kind: Kind::Isolated,
+        budget: 4,
+        period: 10,
+    };
+
+    const THIRD: Terms = Terms {
+        kind: Kind::Isolated,
+        budget: 3,
+        period: 15,
+    };
+
+    // the three, packed
     const FULL: [u8; 13] = [
         0x03, 0x00, 0x00, 0x80, 0x05, 0x80, 0x01, 0x00, 0x0A, 0x80, 0x00, 0xC0, 0x0F,
     ];
 
     fn full_plan(rt: &impl Abort) -> Plan {
         let mut plan = Plan::new();
-        assert_eq!(rt;
-            plan.add(Terms {
-                kind: Kind::NonIsolated,
-                budget: 2,
-                period: 5,
-            }),
-            Ok(0)
-        );
-        assert_eq!(rt;
-            plan.add(Terms {
-                kind: Kind::Isolated,
-                budget: 4,
-                period: 10,
-            }),
-            Ok(1)
-        );
-        assert_eq!(rt;
-            plan.add(Terms {
-                kind: Kind::Isolated,
-                budget: 3,
-                period: 15,
-            }),
-            Ok(2)
-        );
+        assert_eq!(rt; plan.add(FIRST), Ok(0));
+        assert_eq!(rt; plan.add(SECOND), Ok(1));
+        assert_eq!(rt; plan.add(THIRD), Ok(2));
         plan
     }
 
     #[test]
-    fn the_full_plan_is_written(rt: HostRuntime) -> Result<(), Fail> {
+    fn the_full_plan_is_written(rt: HostRuntime) {
         let plan = full_plan(&rt);
         assert_eq!(rt; packed_length(&plan), 13);
         let mut buffer = [0xEE; 15];
-        match write_plan(&plan, &mut buffer) {
-            Ok(length) => assert_eq!(rt; length, 13),
-            Err(_) => return Err(Fail::new("the buffer is long enough")),
-        }
-        for k in 0..13usize {
-            assert_eq!(rt; buffer[k], FULL[k]);
-        }
-        assert_eq!(rt; buffer[13], 0xEE);
-        assert_eq!(rt; buffer[14], 0xEE);
-        Ok(())
+        assert_eq!(rt; write_plan(&plan, &mut buffer), Ok(13));
+        let (file, rest) = buffer.split_at(13);
+        assert_eq!(rt; file, FULL.as_slice());
+        assert_eq!(rt; rest, [0xEE, 0xEE].as_slice());
     }
 
     #[test]
@@ -65,30 +57,9 @@ mod tests {
         assert!(rt; read_plan(&FULL, &mut plan).is_ok());
         assert_eq!(rt; plan.count(), 3);
         assert_eq!(rt; plan.load(), 14_400);
-        assert_eq!(rt;
-            plan.row(0),
-            Some(Terms {
-                kind: Kind::NonIsolated,
-                budget: 2,
-                period: 5,
-            })
-        );
-        assert_eq!(rt;
-            plan.row(1),
-            Some(Terms {
-                kind: Kind::Isolated,
-                budget: 4,
-                period: 10,
-            })
-        );
-        assert_eq!(rt;
-            plan.row(2),
-            Some(Terms {
-                kind: Kind::Isolated,
-                budget: 3,
-                period: 15,
-            })
-        );
+        assert_eq!(rt; plan.row(0), Some(FIRST));
+        assert_eq!(rt; plan.row(1), Some(SECOND));
+        assert_eq!(rt; plan.row(2), Some(THIRD));
     }
 
     #[test]
@@ -122,19 +93,12 @@ mod tests {
         byte: usize,
     ) -> Result<(), Fail> {
         let mut plan = full_plan(rt);
-        match read_plan(file, &mut plan) {
-            Ok(()) => return Err(Fail::new("the file was accepted")),
-            Err(found) => is_fault(rt, found, number, layer, byte),
-        }
+        let found = read_plan(file, &mut plan)
+            .err()
+            .ok_or_else(|| Fail::new("the file was accepted"))?;
+        is_fault(rt, found, number, layer, byte);
         assert_eq!(rt; plan.count(), 3);
-        assert_eq!(rt;
-            plan.row(2),
-            Some(Terms {
-                kind: Kind::Isolated,
-                budget: 3,
-                period: 15,
-            })
-        );
+        assert_eq!(rt; plan.row(2), Some(THIRD));
         Ok(())
     }
 
@@ -216,20 +180,18 @@ mod tests {
         )
     }
 
-    // rows of budget 1 and period 14,400, as many as fit behind the first byte
-    fn fill_rows(file: &mut [u8]) {
-        for row in 0..33usize {
-            if 4 * row + 4 < file.len() {
-                file[4 * row + 3] = 0x78;
-                file[4 * row + 4] = 0x40;
-            }
+    // rows of budget 1 and period 14,400, as many as fit
+    fn fill_rows(rows: &mut [u8]) {
+        for row in rows.chunks_exact_mut(4) {
+            row[2] = 0x78;
+            row[3] = 0x40;
         }
     }
 
     #[test]
     fn the_row_after_the_last_place(rt: HostRuntime) -> Result<(), Fail> {
         let mut file = [0u8; 133];
-        fill_rows(&mut file);
+        fill_rows(&mut file[1..]);
         file[0] = 33;
         faulty(&rt, &file, 1, Layer::Plan, 129)?;
         file[0] = 32;
@@ -247,10 +209,10 @@ mod tests {
         if length > 13 {
             return Err(Fail::new("no such buffer"));
         }
-        match write_plan(&plan, &mut buffer[0..length]) {
-            Ok(_) => return Err(Fail::new("the buffer was taken")),
-            Err(found) => is_fault(rt, found, 8, Layer::Records, 0),
-        }
+        let found = write_plan(&plan, &mut buffer[0..length])
+            .err()
+            .ok_or_else(|| Fail::new("the buffer was taken"))?;
+        is_fault(rt, found, 8, Layer::Records, 0);
         assert_eq!(rt; buffer, [0x5A; 13]);
         Ok(())
     }

@@ -43,6 +43,7 @@ impl DonorRule for Richest {
 
     ghost inside = { λ rule instant thief offers k chosen. picked_inside offers k chosen };
 
+    #[tactic(auto, using(crate::specs::Leading::one_more, crate::specs::Leading::all_done, crate::specs::Leading::some_choice))]
     fn choose(&self, _instant: u32, _thief: u16, offers: &[Offer]) -> Option<usize>
         ensures value { result ≡ richest_choice offers.now }
         ensures richest { IsRichest offers.now result }
@@ -50,6 +51,7 @@ impl DonorRule for Richest {
         if offers.is_empty() {
             return None;
         }
+        // A value to start from, and no `Option`: there is an offer, and the choice by recursion begins so too.
         let mut best = Best {
             position: 0,
             capacity: 0,

@@ -4,7 +4,6 @@ pub mod Steps
 pub mod Paying
 pub mod Bound
 pub mod Fresh
-pub mod Reading
 pub mod Offering
 pub mod Places
 pub mod Keeping

@@ -1,6 +1,6 @@
 -- One row of a table is changed, in its place among the first so many.
 use Rattle.std.proofs.Common.{◌≡◌, ℕ, zero, suc, ◌<◌, ◌≤◌, List, [], ◌∷◌, ◌++◌, map, length, get_or, take, drop, set, sym, refl, ap, ◌∙◌, arith}
-use Rattle.std.proofs.lemmas.List.{length-append, length-map, length-take, length-drop, get_or-take, set_past, take_at}
+use Rattle.std.proofs.lemmas.List.{length-map, length-take, get_or-take, take_at}
 use Rattle.server.specs.declared.row.Row.{Row}
 use Rattle.server.specs.Turn.{blank_row}
 use Rattle.server.specs.Tick.{changed}
@@ -16,16 +16,10 @@ module _ (f : Row → Row) (rows : List Row) (n k : ℕ) where
   changed_inside row after below is change =
       take_set n rows k after below ∙ ap (λ (x : Row). set (take n rows) k x) (change ∙ ap f (is ∙ sym (get_or-take n rows k blank_row below)))
 
-  pub changed_past : n ≤ k → take n rows ≡ changed f k (take n rows)
-  changed_past past = sym (set_past (take n rows) k (f (get_or (take n rows) k blank_row)) (omega (arith, length-take n rows)))
-
 -- the first so many rows are changed, and the others stay behind them
 module _ (f : Row → Row) (rows front : List Row) (n m : ℕ) (all : m ≡ n) (fit : n ≤ length rows) (is : front ≡ map f (take m rows)) where
   long : length front ≡ n
   long = ap length is ∙ length-map (take m rows) f ∙ omega (arith, length-take m rows)
-
-  pub front_length : length (front ++ drop m rows) ≡ length rows
-  front_length = omega (arith, length-append front (drop m rows), long, length-drop m rows)
 
   pub front_rows : take n (front ++ drop m rows) ≡ map f (take n rows)
   front_rows = take_at front (drop m rows) n long ∙ is ∙ ap (λ (i : ℕ). map f (take i rows)) all

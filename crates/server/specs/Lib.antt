@@ -5,5 +5,3 @@ pub mod Tick
 pub mod Demand
 pub mod Table
 pub mod Gathered
-pub mod Marks
-pub mod Candidates

@@ -7,6 +7,7 @@ mod making;
 /// The last instant: the clock stops there, so that an instant and a period always fit 32 bits.
 pub const LAST_INSTANT: u32 = 4_000_000_000;
 
+// No model: the field is public, and clauses read it.
 /// An instant, at most the last one.
 #[derive(Clone, Copy, PartialEq, Eq, Debug)]
 pub struct Instant {

@@ -12,4 +12,4 @@ pub use instant::Instant;
 pub use offers::{Offers, offer_of};
 pub use row::{Account, Event, Phase, Row};
 pub use table::Table;
-pub use turn::{Payment, Source};
+pub use turn::{Payment, Source, Turn};

@@ -11,6 +11,7 @@ use plan::table::MOST_ROWS;
 
 mod gathering;
 
+// As a table's rows, in an array with their count beside it and with no model: offers are `Copy` and need no heap.
 /// All offers to one thief, by rising number.
 #[derive(Clone, Copy)]
 pub struct Offers {
@@ -45,6 +46,7 @@ fn shown(row: &Row, at: Instant, deadline: u32) -> Option<Offer>
     None
 }
 
+// By a function, as the rules name it: row, instant and deadline meet here alone.
 /// What a row offers a thief with this deadline, if anything: only a resting row that is not isolated does.
 pub fn offer_of(row: &Row, at: Instant, deadline: u32) -> Option<Offer>
     ensures { result ≡ offer_of at.ticks deadline row.now }

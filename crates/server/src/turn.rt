@@ -1,7 +1,6 @@
 // Who runs in a tick, who pays for it, and from what.
-mod marks;
-pub(crate) mod paying;
-pub(crate) mod running;
+mod contending;
+pub(crate) mod dispatching;
 
 /// What a tick is charged to.
 #[derive(Clone, Copy, PartialEq, Eq, Debug)]
@@ -14,7 +13,7 @@ pub enum Source {
     Stolen,
     /// What a server supplies, while nobody runs.
     Idle,
-    /// Nothing: nobody runs, and nobody pays.
+    /// Nothing: nobody runs, and nobody pays. The rules give it a code of its own; a payment that is there has another source.
     Empty,
 }
 
@@ -23,4 +22,11 @@ pub enum Source {
 pub struct Payment {
     pub payer: u16,
     pub source: Source,
+}
+
+/// Who runs in a tick, and who pays for it. In idle time nobody runs, and for an empty tick nobody pays.
+#[derive(Clone, Copy, PartialEq, Eq, Debug)]
+pub struct Turn {
+    pub runner: Option<u16>,
+    pub payment: Option<Payment>,
 }

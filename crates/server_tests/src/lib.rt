@@ -28,11 +28,9 @@ mod tests {
         }
     }
 
+    // As in another table of examples; a library for one line would be longer.
     fn instant(ticks: u32) -> Result<Instant, Fail> {
-        match Instant::new(ticks) {
-            Some(at) => Ok(at),
-            None => Err(Fail::new("the clock does not come to it")),
-        }
+        Instant::new(ticks).ok_or_else(|| Fail::new("the clock does not come to it"))
     }
 
     // the event at this instant makes the second row of the first
@@ -285,14 +283,11 @@ mod tests {
         deadline: u32,
         offer: Option<(u32, u16)>,
     ) -> Result<(), Fail> {
-        let found = match offer_of(&row, instant(ticks)?, deadline) {
-            None => None,
-            Some(shown) => {
-                assert_eq!(rt; shown.server, 5);
-                Some((shown.deadline, shown.capacity))
-            }
-        };
-        assert_eq!(rt; found, offer);
+        let found = offer_of(&row, instant(ticks)?, deadline);
+        assert_eq!(rt;
+            found.map(|shown| (shown.server, shown.deadline, shown.capacity)),
+            offer.map(|(deadline, capacity)| (5, deadline, capacity))
+        );
         Ok(())
     }
 

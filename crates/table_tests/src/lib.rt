@@ -9,22 +9,21 @@ mod tests {
     use std::process::Abort;
     use std::test::Fail;
 
+    // As in another table of examples; a library for one line would be longer.
     fn instant(ticks: u32) -> Result<Instant, Fail> {
-        match Instant::new(ticks) {
-            Some(at) => Ok(at),
-            None => Err(Fail::new("the clock does not come to it")),
-        }
+        Instant::new(ticks).ok_or_else(|| Fail::new("the clock does not come to it"))
     }
 
+    // `add` and `holds` are much the same in two tables of examples; a library for them would be longer.
     fn add(plan: &mut Plan, kind: Kind, budget: u16, period: u16) -> Result<(), Fail> {
-        match plan.add(Terms {
+        let terms = Terms {
             kind,
             budget,
             period,
-        }) {
-            Ok(_) => Ok(()),
-            Err(_) => Err(Fail::new("the plan has no room")),
-        }
+        };
+        plan.add(terms)
+            .map(|_| ())
+            .map_err(|_| Fail::new("the plan has no room"))
     }
 
     fn pays(payer: u16, source: Source) -> Option<Payment> {
@@ -70,23 +69,21 @@ mod tests {
         phase: Phase,
         account: (u16, u16, u32, u8),
     ) -> Result<(), Fail> {
-        match table.row(server) {
-            None => Err(Fail::new("there is no such server")),
-            Some(row) => {
-                assert_eq!(rt; row.number, server);
-                assert_eq!(rt; row.phase, phase);
-                assert_eq!(rt;
-                    (
-                        row.account.capacity,
-                        row.account.residual,
-                        row.account.deadline,
-                        row.account.jobs,
-                    ),
-                    account
-                );
-                Ok(())
-            }
-        }
+        let row = table
+            .row(server)
+            .ok_or_else(|| Fail::new("there is no such server"))?;
+        assert_eq!(rt; row.number, server);
+        assert_eq!(rt; row.phase, phase);
+        assert_eq!(rt;
+            (
+                row.account.capacity,
+                row.account.residual,
+                row.account.deadline,
+                row.account.jobs,
+            ),
+            account
+        );
+        Ok(())
     }
 
     #[test]

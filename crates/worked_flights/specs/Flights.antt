@@ -4,7 +4,7 @@ use Rattle.bits.specs.declared.fault.BitsFault.TheVariants.{Short}
 use Rattle.plan.specs.Terms.{weight_of}
 use Rattle.plan.specs.Plan.{added, rows_after}
 use Rattle.plan.specs.Faults.{plan_number}
-use Rattle.records.specs.declared.fault.Layer.TheVariants as layer
+use Rattle.faults.specs.declared.layer.Layer.TheVariants as layer
 use Rattle.records.specs.declared.fault.PlanFileFault.TheVariants.{Records}
 use Rattle.records.specs.declared.fault.RecordsFault.TheVariants.{Bits}
 use Rattle.records.specs.declared.trace.TraceRecord.TheVariants.{Ticks, Arrival, Finish}

@@ -2,7 +2,7 @@
 use Rattle.std.specs.Prelude.{ℕ, List, [], ◌∷◌, ◌++◌, length, replicate, Some, None, Ok, Err, codes, Option, Result}
 use Prim.Native.String.{String}
 use Rattle.plan.specs.declared.terms.Terms.{Terms}
-use Rattle.records.specs.declared.fault.Placed.{Placed}
+use Rattle.faults.specs.declared.placed.Placed.{Placed}
 use Rattle.donor.specs.declared.allowance.Allowance.{Allowance}
 use Rattle.donor.specs.declared.earliest_first.EarliestFirst.{EarliestFirst}
 use Rattle.donor.specs.declared.rule.DonorRule.{Ghosts}

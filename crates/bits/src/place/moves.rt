@@ -16,8 +16,10 @@ impl Place {
     pub fn has_room(&self, length: usize, width: Width) -> bool
         ensures { result ≡ nat_le (bits_before self.now + width.bits) (8 * length) }
     {
-        let touched = (self.bit + width.bits + 7) / 8;
-        self.byte <= length && touched as usize <= length - self.byte
+        let touched = (self.bit + width.bits).div_ceil(8);
+        length
+            .checked_sub(self.byte)
+            .is_some_and(|left| touched as usize <= left)
     }
 
     /// The place after a field of this width.
@@ -33,12 +35,13 @@ impl Place {
     }
 }
 
+// By a test first: `then_some` would make a width before the test, and there is none of no bits.
 impl Width {
     /// A width of so many bits, if there are fields of it.
     pub fn new(bits: u8) -> Option<Width>
         ensures { MatchOption result ((1 ≤ bits → bits ≤ 32 → ⊥)) (λ w. w.bits ≡ bits) }
     {
-        if bits == 0 || bits > MOST_BITS {
+        if !(1..=MOST_BITS).contains(&bits) {
             return None;
         }
         Some(Width { bits })

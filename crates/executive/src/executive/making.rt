@@ -2,7 +2,6 @@
 ghost use Rattle.std.specs.Prelude.{◌≡◌};
 ghost use Rattle.plan.specs.Plan.{rows_of};
 ghost use Rattle.executive.specs.Calls.{fresh_state};
-ghost use Rattle.executive.specs.State.{state_of};
 ghost use Rattle.executive.specs.Shares.{LawOfShares};
 
 use super::Executive;
@@ -15,8 +14,8 @@ impl<R: DonorRule> Executive<R> {
     /// fresh. It promises the whole law of shares: whatever calls it hears from now on, each server gets what the
     /// plan gives it.
     pub fn new(plan: &Plan, rule: R) -> Executive<R>
-        ensures state { state_of result ≡ fresh_state (rows_of plan.now) rule }
-        ensures law { LawOfShares R.DonorRule.choice R.DonorRule.step (rows_of plan.now) (state_of result) }
+        ensures state { result ≡ fresh_state (rows_of plan.now) rule }
+        ensures law { LawOfShares R.DonorRule.choice R.DonorRule.step (rows_of plan.now) result }
     {
         Executive {
             instant: Instant::start(),

@@ -4,9 +4,9 @@ ghost use Rattle.server.specs.Tick.{paid, finished_by, passed};
 ghost use Rattle.server.specs.Table.{table_rows};
 ghost use Rattle.executive.specs.Calls.{runner_number, payer_number, source_of, left_of, payer_deadline, payer_left, ticked_with, told_of};
 
-use crate::answer::{payer_number, runner_number, source_of};
+use crate::answer::{TickAnswer, who_runs};
 use donor::DonorRule;
-use server::{Event, Instant, Payment, Row, Source, Table};
+use server::{Event, Instant, Row, Source, Table, Turn};
 
 // What is left of the capacity that this source is charged to.
 fn left_of(source: Source, row: &Row) -> u16
@@ -21,79 +21,79 @@ fn left_of(source: Source, row: &Row) -> u16
     }
 }
 
-// The charge, if anybody pays.
-fn charge(table: &mut Table, at: Instant, payment: Option<Payment>)
-    ensures { table_rows table.new ≡ paid at.ticks payment (table_rows table.old) }
-{
-    if let Some(payment) = payment {
-        table.pay(payment, at);
-    }
+/// A tick about to be carried out: its instant, who runs and who pays, and whether the runner's job is done with it.
+#[derive(Clone, Copy)]
+pub(crate) struct Tick {
+    pub(crate) at: Instant,
+    pub(crate) turn: Turn,
+    pub(crate) finished: bool,
 }
 
-// The finish of the runner's job, if it is told and somebody runs.
-fn finish(table: &mut Table, at: Instant, runner: Option<u16>, finished: bool)
-    ensures { table_rows table.new ≡ finished_by finished at.ticks runner (table_rows table.old) }
-{
-    if finished {
-        if let Some(server) = runner {
-            table.happens(Event::Finish, at, server);
+impl Tick {
+    // The charge, if anybody pays.
+    fn charge(&self, table: &mut Table)
+        ensures { table_rows table.new ≡ paid self.now.at.ticks self.now.turn.payment (table_rows table.old) }
+    {
+        if let Some(payment) = self.turn.payment {
+            table.pay(payment, self.at);
         }
     }
-}
 
-// The rule is told of a stolen tick.
-fn tell<R: DonorRule>(rule: &mut R, at: Instant, runner: Option<u16>, payment: Option<Payment>)
-    ensures { rule.new ≡ told_of R.DonorRule.step (source_of payment) rule.old at.ticks (runner_number runner) (payer_number payment) }
-{
-    match source_of(payment) {
-        Source::Stolen => rule.charged(at.ticks, runner_number(runner), payer_number(payment)),
-        Source::Own => {}
-        Source::Residual => {}
-        Source::Idle => {}
-        Source::Empty => {}
+    // The finish of the runner's job, if it is told and somebody runs.
+    fn finish(&self, table: &mut Table)
+        ensures { table_rows table.new ≡ finished_by self.now.finished self.now.at.ticks self.now.turn.runner (table_rows table.old) }
+    {
+        if self.finished {
+            if let Some(server) = self.turn.runner {
+                table.happens(Event::Finish, self.at, server);
+            }
+        }
     }
-}
 
-// The payer's deadline and what is left of the capacity charged.
-fn payer_account(table: &Table, payment: Option<Payment>) -> (u32, u16)
-    ensures { result ≡ (payer_deadline payment (table_rows table.now), payer_left payment (table_rows table.now)) }
-{
-    match payment {
-        None => (0, 0),
-        Some(payment) => match table.row(payment.payer) {
-            None => (0, 0),
-            Some(row) => (row.account.deadline, left_of(payment.source, &row)),
-        },
+    // The rule is told of a stolen tick.
+    fn tell<R: DonorRule>(&self, rule: &mut R)
+        ensures { rule.new ≡ told_of R.DonorRule.step (source_of self.now.turn.payment) rule.old self.now.at.ticks (runner_number self.now.turn.runner) (payer_number self.now.turn.payment) }
+    {
+        let (thief, payer, source) = who_runs(self.turn);
+        match source {
+            Source::Stolen => rule.charged(self.at.ticks, thief, payer),
+            Source::Own => {}
+            Source::Residual => {}
+            Source::Idle => {}
+            Source::Empty => {}
+        }
     }
-}
 
-// The tick itself: the charge, what is answered, the rule told, the finish, and the clock with all deadlines and cuts.
-pub(crate) fn carry_out<R: DonorRule>(
-    instant: &mut Instant,
-    table: &mut Table,
-    rule: &mut R,
-    next: Instant,
-    runner: Option<u16>,
-    payment: Option<Payment>,
-    finished: bool,
-) -> (u16, u16, Source, u32, u16)
-    ensures answer { result ≡ ticked_with runner payment (paid instant.old.ticks payment (table_rows table.old)) }
-    ensures instant { instant.new ≡ next }
-    ensures rows { table_rows table.new ≡ map (passed next.ticks) (finished_by finished instant.old.ticks runner (paid instant.old.ticks payment (table_rows table.old))) }
-    ensures rule { rule.new ≡ told_of R.DonorRule.step (source_of payment) rule.old instant.old.ticks (runner_number runner) (payer_number payment) }
-{
-    let at = *instant;
-    charge(table, at, payment);
-    let (deadline, left) = payer_account(table, payment);
-    tell(rule, at, runner, payment);
-    finish(table, at, runner, finished);
-    table.pass(next);
-    *instant = next;
-    (
-        runner_number(runner),
-        payer_number(payment),
-        source_of(payment),
-        deadline,
-        left,
-    )
+    // The payer's deadline and what is left of the capacity charged.
+    fn payer_account(&self, table: &Table) -> (u32, u16)
+        ensures { result ≡ (payer_deadline self.now.turn.payment (table_rows table.now), payer_left self.now.turn.payment (table_rows table.now)) }
+    {
+        let Some(payment) = self.turn.payment else {
+            return (0, 0);
+        };
+        let Some(row) = table.row(payment.payer) else {
+            return (0, 0);
+        };
+        (row.account.deadline, left_of(payment.source, &row))
+    }
+
+    // The tick itself: the charge, what is answered, the rule told, the finish, and the clock with all deadlines and cuts.
+    pub(crate) fn carry_out<R: DonorRule>(
+        &self,
+        table: &mut Table,
+        rule: &mut R,
+        next: Instant,
+    ) -> TickAnswer
+        ensures answer { result ≡ ticked_with self.now.turn.runner self.now.turn.payment (paid self.now.at.ticks self.now.turn.payment (table_rows table.old)) }
+        ensures rows { table_rows table.new ≡ map (passed next.ticks) (finished_by self.now.finished self.now.at.ticks self.now.turn.runner (paid self.now.at.ticks self.now.turn.payment (table_rows table.old))) }
+        ensures rule { rule.new ≡ told_of R.DonorRule.step (source_of self.now.turn.payment) rule.old self.now.at.ticks (runner_number self.now.turn.runner) (payer_number self.now.turn.payment) }
+    {
+        self.charge(table);
+        let (deadline, left) = self.payer_account(table);
+        self.tell(rule);
+        self.finish(table);
+        table.pass(next);
+        let (runner, payer, source) = who_runs(self.turn);
+        (runner, payer, source, deadline, left)
+    }
 }

@@ -1,64 +1,61 @@
-// Writing on a page: bytes, and digits put straight where they stand.
-ghost use Rattle.std.specs.Prelude.{◌≡◌, ◌+◌, ◌-◌, ◌<◌, ◌≤◌, [], ◌∷◌, ◌++◌, length, decimal, nat_le};
+// Writing on a page: bytes and numbers.
+ghost use Rattle.std.specs.Prelude.{◌≡◌, ◌-◌, ◌≤◌, [], ◌∷◌, ◌++◌, length, decimal, nat_le};
 ghost use Rattle.flight.specs.Sizes.{page_bytes};
-ghost use Rattle.flight.specs.Page.{page_text};
+ghost use Rattle.flight.specs.Page.{fitting};
 
-use super::{PAGE_BYTES, Page};
+use super::Page;
+use arrayvec::ArrayVec;
+use itoa::Buffer;
 
 impl Page {
     /// An empty page.
     pub fn new() -> Page
-        ensures { page_text result ≡ [] }
+        ensures { result ≡ [] }
     {
         Page {
-            bytes: [0; PAGE_BYTES],
-            len: 0,
+            bytes: ArrayVec::new(),
         }
     }
 
     /// What stands on the page.
     pub fn text(&self) -> &[u8]
-        ensures { result.now ≡ page_text self.now }
+        ensures text { result.now ≡ self.now }
+        ensures fits { length result.now ≤ page_bytes }
     {
-        &self.bytes[0..self.len]
+        self.bytes.as_slice()
     }
 
     /// Whether the page has room for so many bytes more.
     pub fn has_room(&self, count: usize) -> bool
-        ensures { result ≡ nat_le count (page_bytes - self.now.len) }
+        ensures { result ≡ nat_le count (page_bytes - length self.now) }
     {
-        count <= PAGE_BYTES - self.len
+        count <= self.bytes.remaining_capacity()
     }
 
     /// Empties the page.
     pub fn clear(&mut self)
-        ensures text { page_text self.new ≡ [] }
-        ensures len { self.new.len ≡ 0 }
+        ensures { self.new ≡ [] }
     {
-        self.len = 0;
+        self.bytes.clear();
     }
 
     /// One byte more.
     pub fn put(&mut self, byte: u8)
-        ensures text { self.old.len < page_bytes → page_text self.new ≡ page_text self.old ++ (byte ∷ []) }
-        ensures len { self.new.len ≤ self.old.len + 1 }
+        ensures { self.new ≡ fitting (self.old ++ byte ∷ []) }
     {
-        if self.len < PAGE_BYTES {
-            self.bytes[self.len] = byte;
-            self.len += 1;
+        if !self.bytes.is_full() {
+            self.bytes.push(byte);
         }
     }
 
     /// A number, in decimal.
     pub fn put_number(&mut self, n: u32)
-        ensures text { self.old.len + length (decimal n) ≤ page_bytes → page_text self.new ≡ page_text self.old ++ decimal n }
-        ensures len { self.new.len ≤ self.old.len + length (decimal n) }
+        ensures { self.new ≡ fitting (self.old ++ decimal n) }
     {
-        if n < 10 {
-            self.put(48 + n as u8);
-            return;
+        let mut buffer = Buffer::new();
+        let digits = buffer.format(n).as_bytes();
+        for digit in digits {
+            self.put(*digit);
         }
-        self.put_number(n / 10);
-        self.put(48 + (n % 10) as u8);
     }
 }

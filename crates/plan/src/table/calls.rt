@@ -4,20 +4,15 @@ ghost use Rattle.plan.specs.Plan.{rows_of, added, rows_after};
 
 use super::{MOST_ROWS, Plan};
 use crate::fault::PlanFault;
-use crate::terms::{COMMON_MULTIPLE, Kind, Terms, budget_is_bad, period_is_bad};
+use crate::terms::{COMMON_MULTIPLE, Terms};
 
 impl Plan {
     /// A plan with no rows.
     pub fn new() -> Plan
         ensures { rows_of result ≡ [] }
     {
-        let blank = Terms {
-            kind: Kind::NonIsolated,
-            budget: 0,
-            period: 0,
-        };
         Plan {
-            rows: [blank; MOST_ROWS],
+            rows: [Terms::BLANK; MOST_ROWS],
             count: 0,
             load: 0,
         }
@@ -32,12 +27,7 @@ impl Plan {
         if number >= MOST_ROWS {
             return Err(PlanFault::Full);
         }
-        if period_is_bad(terms.period) {
-            return Err(PlanFault::Period);
-        }
-        if budget_is_bad(terms.budget, terms.period) {
-            return Err(PlanFault::Budget);
-        }
+        terms.check()?;
         let load = self.load + terms.weight();
         if load > COMMON_MULTIPLE {
             return Err(PlanFault::Weight);

@@ -18,18 +18,14 @@ impl Plan {
     pub fn row(&self, number: u16) -> Option<Terms>
         ensures { result ≡ row_at (rows_of self.now) number }
     {
-        let place = number as usize;
-        if place >= self.count {
-            return None;
-        }
-        Some(self.rows[place])
+        self.rows().get(number as usize).copied()
     }
 
     /// All rows, in the order of their numbers.
     pub fn rows(&self) -> &[Terms]
         ensures { result.now ≡ rows_of self.now }
     {
-        &self.rows[0..self.count]
+        &self.rows[..self.count]
     }
 
     /// What the rows weigh together.

@@ -4,6 +4,7 @@ ghost use Rattle.server.specs.Clock.{last_instant};
 
 use super::{Instant, LAST_INSTANT};
 
+// By tests first: `then_some` would make an instant before the test, and an instant past the last is none.
 impl Instant {
     /// The instant of so many ticks, if the clock comes to it.
     pub fn new(ticks: u32) -> Option<Instant>

@@ -39,6 +39,7 @@ impl Row {
         };
     }
 
+    // Two charges, and not one with the field as a parameter: a lent field would say no more, and each is one line.
     /// Takes one tick from its own capacity, if there is one.
     pub fn charge_own(&mut self)
         ensures { self.new ≡ charged_own self.old }

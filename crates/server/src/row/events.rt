@@ -12,69 +12,69 @@ impl Row {
     {
         match (self.phase, event) {
             (Phase::Resting, Event::Arrival) => {
-                wake(self, at);
-                add_job(self);
+                self.wake(at);
+                self.add_job();
             }
-            (Phase::AtWork, Event::Arrival) => add_job(self),
-            (Phase::Supplying, Event::Arrival) => add_job(self),
-            (Phase::AtWork, Event::Finish) => end_job(self),
-            (Phase::AtWork, Event::Deadline) => renew(self, at),
-            (Phase::Supplying, Event::Deadline) => end_supply(self, at),
+            (Phase::AtWork, Event::Arrival) => self.add_job(),
+            (Phase::Supplying, Event::Arrival) => self.add_job(),
+            (Phase::AtWork, Event::Finish) => self.end_job(),
+            (Phase::AtWork, Event::Deadline) => self.renew(at),
+            (Phase::Supplying, Event::Deadline) => self.end_supply(at),
             (Phase::Resting, Event::Finish) => {}
             (Phase::Supplying, Event::Finish) => {}
             (Phase::Resting, Event::Deadline) => {}
         }
     }
-}
 
-// One job more.
-fn add_job(row: &mut Row)
-    ensures { row.new ≡ one_more row.old }
-{
-    row.account.jobs = row.account.jobs.saturating_add(1);
-}
-
-// A resting row goes to work; if its deadline has passed it is recharged first.
-fn wake(row: &mut Row, at: Instant)
-    ensures { row.new ≡ woken at.ticks row.old }
-{
-    if row.account.deadline <= at.ticks {
-        row.recharge(at);
+    // One job more.
+    fn add_job(&mut self)
+        ensures { self.new ≡ one_more self.old }
+    {
+        self.account.jobs = self.account.jobs.saturating_add(1);
     }
-    row.phase = Phase::AtWork;
-}
 
-// The job that runs is done: after the last one the row supplies what it has left.
-fn end_job(row: &mut Row)
-    ensures { row.new ≡ done row.old }
-{
-    if row.account.jobs <= 1 {
-        row.phase = Phase::Supplying;
-        row.account.jobs = 0;
-        row.account.residual = row.account.capacity;
-        row.account.capacity = 0;
-    } else {
-        row.account.jobs -= 1;
+    // A resting row goes to work; if its deadline has passed it is recharged first.
+    fn wake(&mut self, at: Instant)
+        ensures { self.new ≡ woken at.ticks self.old }
+    {
+        if self.account.deadline <= at.ticks {
+            self.recharge(at);
+        }
+        self.phase = Phase::AtWork;
     }
-}
 
-// Back to work with a new budget.
-fn renew(row: &mut Row, at: Instant)
-    ensures { row.new ≡ renewed at.ticks row.old }
-{
-    row.recharge(at);
-    row.phase = Phase::AtWork;
-}
+    // The job that runs is done: after the last one the row supplies what it has left.
+    fn end_job(&mut self)
+        ensures { self.new ≡ done self.old }
+    {
+        if self.account.jobs <= 1 {
+            self.phase = Phase::Supplying;
+            self.account.jobs = 0;
+            self.account.residual = self.account.capacity;
+            self.account.capacity = 0;
+        } else {
+            self.account.jobs -= 1;
+        }
+    }
 
-// A supplying row at its deadline: back to work if jobs wait, else it rests with nothing.
-fn end_supply(row: &mut Row, at: Instant)
-    ensures { row.new ≡ supplied at.ticks row.old }
-{
-    if row.account.jobs == 0 {
-        row.phase = Phase::Resting;
-        row.account.capacity = 0;
-        row.account.residual = 0;
-    } else {
-        renew(row, at);
+    // Back to work with a new budget.
+    fn renew(&mut self, at: Instant)
+        ensures { self.new ≡ renewed at.ticks self.old }
+    {
+        self.recharge(at);
+        self.phase = Phase::AtWork;
+    }
+
+    // A supplying row at its deadline: back to work if jobs wait, else it rests with nothing.
+    fn end_supply(&mut self, at: Instant)
+        ensures { self.new ≡ supplied at.ticks self.old }
+    {
+        if self.account.jobs == 0 {
+            self.phase = Phase::Resting;
+            self.account.capacity = 0;
+            self.account.residual = 0;
+        } else {
+            self.renew(at);
+        }
     }
 }

@@ -1,4 +1,4 @@
-// What changes a table: one row at a time is taken, changed and written back, and every other row stays.
+// What changes a table: one row at a time, or all as the clock goes on; every other row stays.
 ghost use Rattle.std.specs.Prelude.{◌≡◌, ℕ, suc, map, slice_index_or};
 ghost use Rattle.std.specs.List.{AllByRecursion};
 ghost use Rattle.plan.specs.declared.terms.Kind.TheVariants.{NonIsolated};
@@ -15,6 +15,8 @@ use crate::instant::Instant;
 use crate::row::{Event, Row};
 use crate::turn::Payment;
 
+// By rules of the project an event changes a row by value, which is then written back whole, and a row is lent to be charged. That each row
+// keeps its limits depends on the instant, which no table has, so it stands in each contract and not in the type.
 impl Table {
     /// What an event does to the row of a server, if there is one of this number.
     pub fn happens(&mut self, event: Event, at: Instant, server: u16)
@@ -37,9 +39,7 @@ impl Table {
     {
         let place = payment.payer as usize;
         if place < self.count {
-            let mut row = self.rows[place];
-            row.pay(payment.source, at);
-            self.rows[place] = row;
+            self.rows[place].pay(payment.source, at);
         }
     }
 

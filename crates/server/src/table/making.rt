@@ -8,7 +8,7 @@ ghost use Rattle.server.specs.Demand.{Sound, ArrivalKeepsTheBound, TickKeepsTheB
 use super::Table;
 use crate::row::Row;
 use plan::table::MOST_ROWS;
-use plan::{Kind, Plan, Terms};
+use plan::{Plan, Terms};
 
 impl Table {
     /// A table for a plan: a fresh row for each server. The demand bound holds of it, every arrival and every
@@ -21,15 +21,11 @@ impl Table {
         ensures tick { TickKeepsTheBound }
         ensures nothing_left { NothingIsLeftAtADeadline }
     {
-        let blank = Terms {
-            kind: Kind::NonIsolated,
-            budget: 0,
-            period: 0,
-        };
-        let mut rows = [Row::fresh(0, blank); MOST_ROWS];
+        let mut rows = [Row::fresh(0, Terms::BLANK); MOST_ROWS];
         let all = plan.rows();
-        for k in 0..all.len() {
-            rows[k] = Row::fresh(k as u16, all[k]);
+        // The number goes into the row, too, so it is counted here.
+        for (k, terms) in all.iter().enumerate() {
+            rows[k] = Row::fresh(k as u16, *terms);
         }
         Table {
             rows,

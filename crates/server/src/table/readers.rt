@@ -1,10 +1,9 @@
 // What can be read off a table.
-ghost use Rattle.std.specs.Prelude.{◌≡◌, length, take};
+ghost use Rattle.std.specs.Prelude.{◌≡◌, length};
 ghost use Rattle.server.specs.Table.{table_rows, row_in};
 
 use super::Table;
 use crate::row::Row;
-use plan::table::MOST_ROWS;
 
 impl Table {
     /// How many servers there are: they are numbered from 0 upward.
@@ -25,19 +24,6 @@ impl Table {
     pub fn row(&self, number: u16) -> Option<Row>
         ensures { result ≡ row_in (table_rows self.now) number }
     {
-        row_in(&self.rows, self.count, number as usize)
+        self.rows().get(number as usize).copied()
     }
-}
-
-// The row at a place among the first so many.
-fn row_in(rows: &[Row; MOST_ROWS], count: usize, place: usize) -> Option<Row>
-    ensures { result ≡ row_in (take count rows.now) place }
-{
-    if place >= count {
-        return None;
-    }
-    if place >= MOST_ROWS {
-        return None;
-    }
-    Some(rows[place])
 }

@@ -1,65 +1,26 @@
--- Each tick that is granted adds its line; one that is refused ends it.
-use Rattle.std.proofs.Common.{◌≡◌, ℕ, ◌+◌, ◌-◌, false, List, [], ◌∷◌, ◌++◌, Some, None, Err, sym, ap, ◌∙◌, subst, append_assoc, append-nil, arith}
+-- A tick that is granted is followed by the others; one that is refused ends it.
+use Rattle.std.proofs.Common.{◌≡◌, suc, ◌+◌, ◌-◌, Ok, Err, arith}
 use Rattle.std.proofs.lemmas.Result.{err_from_is_err_and}
-use Rattle.executive.specs.Calls.{State}
-use Rattle.executive.specs.State.{state_of}
-use Rattle.flight.specs.Flight.{Line, flown_ticks}
-use Rattle.flight.proofs.Flying.{Onward, tick_onward, tick_ended, start_onward, refused_stays, parts}
+use Rattle.flight.proofs.Flying.{flies_landed, tick_more, tick_ended}
 use Rattle.flight.proofs.playing.fly_ticks.Goals as goal
 
-pub loop-init : goal.loop-init
-loop-init g c =
-    ([], start_onward g.R.DonorRule.choice g.R.DonorRule.step c.args.count (c.args.count - 0) (state_of c.args.executive.now) (omega arith), λ before heard. subst (g.L.Listener.heard c.args.listener.now) (sym (append-nil before)) heard)
-
-pub returns-in_err-answer : goal.returns-in_err-answer
-returns-in_err-answer g c =
-    let choice = g.R.DonorRule.choice in
-    let step = g.R.DonorRule.step in
-    let n = c.args.count in
-    let state = state_of c.loop.executive in
-    let whole = flown_ticks choice step n (state_of c.args.executive.now) in
-    let lines = c.loop.invariant.0 in
-    let fault = c.in_err-answer.field-0.0 in
-    let refused = sym c.in_err-answer.was ∙ c.tick.ensures.answer in
+pub returns-in_err-fly_tick : goal.returns-in_err-fly_tick
+returns-in_err-fly_tick g c =
+    let left = c.args.count - (c.loop.counter + 1) in
+    let next : c.args.count - c.loop.counter ≡ suc left = omega arith in
     let x = err_from_is_err_and c.from_residual.result c.from_residual.ensures.1 in
-    let all = parts whole lines state (Some fault) (tick_ended choice step whole lines (n - c.loop.counter) (n - (c.loop.counter + 1)) state fault (omega arith) refused c.loop.invariant.1) in
-    record {
-      answer = x.1 ∙ ap Err x.2 ∙ all.answers;
-      state = c.tick.ensures.state ∙ refused_stays choice step state false fault refused ∙ all.stands;
-      heard = λ before heard. subst (λ (more : List Line). g.L.Listener.heard c.loop.listener (before ++ more)) all.listed (c.loop.invariant.2 before heard);
-    }
+    rw (x.1, x.2)
+    (c.loop.invariant (Err c.in_err-fly_tick.field-0.0) c.fly_tick.new.executive c.fly_tick.new.listener
+    (rw next (tick_ended g.L.Listener.heard g.R.DonorRule.choice g.R.DonorRule.step left c.in_err-fly_tick.field-0.0 c.loop.executive c.fly_tick.new.executive c.loop.listener c.fly_tick.new.listener (rw c.in_err-fly_tick.was at c.fly_tick.ensures))))
 
 pub loop-preserved : goal.loop-preserved
-loop-preserved g c =
-    let choice = g.R.DonorRule.choice in
-    let step = g.R.DonorRule.step in
-    let n = c.args.count in
-    let state = state_of c.loop.executive in
-    let whole = flown_ticks choice step n (state_of c.args.executive.now) in
-    let lines = c.loop.invariant.0 in
-    let answer = c.in_ok-answer.answer in
-    let line : List Line = (state.instant, answer) ∷ [] in
-    let granted = sym c.in_ok-answer.was ∙ c.tick.ensures.answer in
-    let on = tick_onward choice step whole lines (n - c.loop.counter) (n - (c.loop.counter + 1)) state answer (omega arith) granted c.loop.invariant.1 in (
-      lines ++ line,
-      subst (λ (after : State g.row.R.Denot). Onward choice step whole (lines ++ line) (n - (c.loop.counter + 1)) after) (sym c.tick.ensures.state) on,
-      λ before heard.
-          subst (g.L.Listener.heard c.hear.new.self) (append_assoc before lines line)
-          (subst (λ (at : ℕ). g.L.Listener.heard c.hear.new.self ((before ++ lines) ++ ((at, answer) ∷ []))) c.instant-at.ensures (c.hear.ensures (before ++ lines) (c.loop.invariant.2 before heard))),
-    )
+loop-preserved g c answer after new rest =
+    let left = c.args.count - (c.loop.counter + 1) in
+    let next : c.args.count - c.loop.counter ≡ suc left = omega arith in
+    c.loop.invariant answer after new
+    (rw next (tick_more g.L.Listener.heard g.R.DonorRule.choice g.R.DonorRule.step left c.loop.executive c.fly_tick.new.executive c.loop.listener c.fly_tick.new.listener (rw c.in_ok-fly_tick.was at c.fly_tick.ensures) answer after new rest))
 
 pub returns : goal.returns
 returns g c =
-    let choice = g.R.DonorRule.choice in
-    let step = g.R.DonorRule.step in
-    let n = c.args.count in
-    let state = state_of c.loop.executive in
-    let whole = flown_ticks choice step n (state_of c.args.executive.now) in
-    let lines = c.loop.invariant.0 in
-    let none : n - c.loop.counter ≡ 0 = omega arith in
-    let all = parts whole lines state None (subst (λ (k : ℕ). Onward choice step whole lines k state) none c.loop.invariant.1) in
-    record {
-      answer = all.answers;
-      state = all.stands;
-      heard = λ before heard. subst (λ (more : List Line). g.L.Listener.heard c.loop.listener (before ++ more)) all.listed (c.loop.invariant.2 before heard);
-    }
+    let none : c.args.count - c.loop.counter ≡ 0 = omega arith in
+    c.loop.invariant (Ok tt) c.loop.executive c.loop.listener (rw none (flies_landed g.L.Listener.heard c.loop.executive c.loop.listener))

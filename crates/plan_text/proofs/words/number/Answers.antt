@@ -1,29 +1,26 @@
--- Each digit that is read leaves the answer of the whole word to the digits that follow.
-use Rattle.std.proofs.Common.{◌≡◌, ◌+◌, cond, get_or, drop, Some, None, sym, ap, ◌∙◌, arith}
-use Rattle.std.proofs.lemmas.List.{at_drop_more, at_drop_all}
-use Rattle.plan_text.specs.Numbers.{held, number_after}
-use Rattle.plan_text.proofs.Numbers.{digit_more, digit_none}
+-- The two passes over the word: all are digits, and what they stand for.
+use Rattle.std.proofs.Common.{Some, sym, refl, ap, ◌∙◌, rules, tests}
+use Rattle.std.specs.Char.{is_ascii_digit}
+use Rattle.std.proofs.lemmas.Iterator.{YieldsList-from_slice}
+use Rattle.std.proofs.lemmas.Iterator.Consumers.{fold_from_yields_List}
+use Rattle.std.proofs.lemmas.Iterator.Search.{all_from_yields_List}
+use Rattle.plan_text.proofs.Numbers.{all_digits, held_step, fold_held}
+use Rattle.plan_text.proofs.words.number.Goals.{then-is_empty-via-then-is_empty, then-is_empty-via-else-is_empty+then-not-all}
 use Rattle.plan_text.proofs.words.number.Goals as goal
 
-pub returns-then-not-is_ascii_digit : goal.returns-then-not-is_ascii_digit
-returns-then-not-is_ascii_digit c =
-    let w = c.args.word.now in
-    let i = c.loop-byte.byte-index in
-    let here = at_drop_more (number_after c.loop-byte.value) w i 0 c.loop-byte-test.true in
-    let none = digit_none c.loop-byte.value (get_or w i 0) (drop (i + 1) w) (sym c.if-not-is_ascii_digit.ensures.value) in
-    sym none ∙ sym here ∙ c.loop-byte.invariant.0 ∙ ap (λ b. cond b None (number_after 0 w)) c.if-is_empty.ensures
-
-pub loop-byte-preserved : goal.loop-byte-preserved
-loop-byte-preserved c =
-    let w = c.args.word.now in
-    let i = c.loop-byte.byte-index in
-    let here = at_drop_more (number_after c.loop-byte.value) w i 0 c.loop-byte-test.true in
-    let step = digit_more c.loop-byte.value c.saturating_add-value.result (get_or w i 0) (drop (i + 1) w) (sym c.if-not-is_ascii_digit.ensures.value) (omega arith) in
-    (sym step ∙ sym here ∙ c.loop-byte.invariant.0, omega arith)
+pub returns-then-is_empty : goal.returns-then-is_empty
+returns-then-is_empty c =
+    let word = c.args.word.now in
+    elim c.then-is_empty.branch [
+      | then-is_empty-via-then-is_empty w ↦ search rules
+      | then-is_empty-via-else-is_empty+then-not-all w ↦
+          let all = all_from_yields_List is_ascii_digit _ _ _ w.all.ensures.ran (YieldsList-from_slice word cc) (λ x b q k. search (rules, tests)) ∙ all_digits word in
+          rw (sym w.if-is_empty.ensures, sym all ∙ w.if-not-all.true) refl
+    ]
 
 pub returns : goal.returns
 returns c =
-    let w = c.args.word.now in
-    let here = at_drop_all (number_after c.loop-byte.value) w c.loop-byte.byte-index c.loop-byte-test.false in
-    let is : c.loop-byte.value ≡ held c.loop-byte.value = omega (arith, c.loop-byte.invariant.1) in
-    ap Some is ∙ sym here ∙ c.loop-byte.invariant.0 ∙ ap (λ b. cond b None (number_after 0 w)) c.if-is_empty.ensures
+    let word = c.args.word.now in
+    let all = all_from_yields_List is_ascii_digit _ _ _ c.all.ensures.ran (YieldsList-from_slice word cc) (λ x b q k. search (rules, tests)) ∙ all_digits word in
+    let value = fold_from_yields_List _ held_step _ _ c.fold.ensures.ran (YieldsList-from_slice word cc) (λ a x b q k. search (rules, tests)) ∙ fold_held 0 word in
+    rw (sym c.if-is_empty.ensures, sym all ∙ c.if-not-all.false) (ap Some value)

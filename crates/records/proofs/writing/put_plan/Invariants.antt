@@ -4,4 +4,4 @@ use Rattle.records.specs.Packed.{packed_row}
 use Rattle.records.proofs.writing.put_plan.Given as goal
 
 abbrev pub invariant-loop-k : goal.invariant-loop-k
-invariant-loop-k l = l.buffer ≡ (length l.rows ∷ flat_map packed_row (take l.k l.rows)) ++ drop (1 + 4 * l.k) l.initial.buffer
+invariant-loop-k l = l.buffer ≡ (length l.terms-items ∷ flat_map packed_row (take l.k l.terms-items)) ++ drop (1 + 4 * l.k) l.initial.buffer

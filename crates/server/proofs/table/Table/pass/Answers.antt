@@ -1,17 +1,9 @@
-use Rattle.std.proofs.Common.{◌-◌, ◌∙◌, arith}
+use Rattle.std.proofs.Common.{◌-◌, arith}
 use Rattle.server.specs.Tick.{passed}
 use Rattle.server.specs.Table.{table_rows}
-use Rattle.server.proofs.Places.{front_length, front_rows}
+use Rattle.server.proofs.Places.{front_rows}
 use Rattle.server.proofs.Keeping.{passed_keeps}
 use Rattle.server.proofs.table.Table.pass.Goals as goal
-
-pub invariant_of-self : goal.invariant_of-self
-invariant_of-self c =
-    let table = c.args.self.now in
-    record {
-      whole = front_length (passed c.args.at.ticks) table.rows c.pass_all.new.rows table.count (table.count - 0) (omega arith) (omega (arith, table.whole, table.room)) c.pass_all.ensures ∙ table.whole;
-      room = table.room;
-    }
 
 pub returns : goal.returns
 returns c =

@@ -1,6 +1,0 @@
-use Rattle.std.proofs.Common.{arith}
-use Rattle.std.proofs.lemmas.List.{length_push}
-use Rattle.flights.proofs.ChecksumListener.hear.Goals as goal
-
-pub returns : goal.returns
-returns c lines heard = omega (arith, heard, c.saturating_add-self.ensures, length_push lines (c.args.instant, c.args.answer))
