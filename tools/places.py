@@ -13,7 +13,7 @@ import sys
 # kind, what the pattern looks for, the pattern; the names are those of the code as it first was
 PATTERNS = [
     ("enums", "an enum, to be read for the shape of Option or Result", r"^\s*(pub(\([a-z]+\))? )?enum "),
-    ("enums", "a flag in a struct", r"^\s+(pub )?\w+: bool,"),
+    ("enums", "a flag in a struct", r"^\s+(pub(\([a-z]+\))? )?\w+: bool,"),
     ("enums", "a function that tells failure by a flag", r"fn \w+\(&mut self[^)]*\) -> bool"),
     ("enums", "a number that names nobody, a kind, a rule or a letter", r"\bNOBODY\b|\b(kind|letter|code)\w*: u(8|16|32)|(kind|bit) == [0-9]|put\([0-9]+\)|=> (4[5-9]|1[01][0-9]),"),
     ("enums", "an Option or a Result taken apart by hand", r"(None|Err\(\w+\)) => (return )?(None|Err\(|0|\(0, 0\)|NOBODY|Source::Empty|Some\()|if [^{]*\b(is_bad|is_none)\("),

@@ -21,7 +21,7 @@ pub fn read_field(bytes: &[u8], at: &mut Place, width: Width) -> Result<u32, Bit
     Ok(value)
 }
 
-// Its clauses name the two fields: it is `Copy`, and both are all that it is.
+// No model: its view would be these two fields again, and no clause shorter.
 /// Reads the fields of some bytes, each behind the one before.
 #[derive(Clone, Copy)]
 pub struct FieldReader<'a> {

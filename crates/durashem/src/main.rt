@@ -152,10 +152,10 @@ fn fly_words(rt: &HostRuntime, words: &[&str], rule: RuleName) -> anyhow::Result
 
 /// Flies under the rule that is named, the files that the other words name.
 fn fly_under(rt: &HostRuntime, name: &str, files: &[&str]) -> anyhow::Result<()> {
-    match rule_named(name) {
-        Some(rule) => fly_words(rt, files, rule),
-        None => usage(rt),
-    }
+    let Some(rule) = rule_named(name) else {
+        return usage(rt);
+    };
+    fly_words(rt, files, rule)
 }
 
 fn run(rt: &HostRuntime, words: &[&str]) -> anyhow::Result<()> {

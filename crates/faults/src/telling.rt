@@ -4,6 +4,8 @@ ghost use Rattle.faults.specs.declared.layer.Layer.{Layer};
 
 use crate::layer::Layer;
 
+// Each type of faults has its own `Display`, of one line: for all of them at once there can be none, as `Display` is std's.
+
 /// A fault: its number, the layer that found it, and the same in words. A type of faults says with its ghost members which
 /// these are.
 pub trait Fault {

@@ -8,6 +8,7 @@ use faults::{Fault, Layer};
 use records::RecordsFault;
 use std::fmt;
 
+// Of the shape of a plan file's faults; one type over both would name the cases of neither.
 /// What ends a flight.
 #[derive(Clone, Copy, PartialEq, Eq, Debug)]
 pub enum FlightFault {

@@ -12,7 +12,8 @@ pub const MOST_ROWS: usize = 32;
 
 // The rows stand in an array with their count beside it: a plan is `Copy` and needs no heap, and no
 // collection of the library has both. It has no model, as one of a `Copy` type must give back the unused
-// places too; clauses say `rows_of`.
+// places too; clauses say `rows_of`. A type shared with the offers would carry the same two facts, and no
+// more.
 /// A plan of servers. Its limits are part of the type: there are at most 32 rows, each period divides
 /// the common multiple, each budget is 1 to the period, and the weights add up to no more than the
 /// common multiple.

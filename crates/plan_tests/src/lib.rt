@@ -7,6 +7,7 @@ mod tests {
     use plan::{Kind, Plan, PlanFault, Terms};
     use std::process::Abort;
 
+    // As in other tables of examples; a library for a few lines would be longer.
     fn shared(budget: u16, period: u16) -> Terms {
         Terms {
             kind: Kind::NonIsolated,

@@ -20,6 +20,7 @@ pub enum LineFault {
     Refused(PlanFault),
 }
 
+// No `Placed`: its place is a line, and what is wrong may have no number.
 /// The first line that is wrong, counted from 1, and what is wrong with it.
 #[derive(Clone, Copy, PartialEq, Eq, Debug)]
 pub struct TextFault {

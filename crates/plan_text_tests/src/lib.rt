@@ -9,6 +9,7 @@ mod tests {
     use std::process::Abort;
     use std::test::Fail;
 
+    // As in other tables of examples; a library for a few lines would be longer.
     const FIRST: Terms = Terms {
         kind: Kind::NonIsolated,
         budget: 2,

@@ -13,6 +13,7 @@ use donor::{DonorRule, Offer};
 #[derive(Clone, Copy, PartialEq, Eq, Debug)]
 pub struct Richest;
 
+// Apart from the library's own search, which goes by deadlines: a rule from outside stands on the interface alone.
 /// The richest offer so far: its position and capacity.
 #[derive(Clone, Copy)]
 struct Best {

@@ -11,7 +11,8 @@ use plan::table::MOST_ROWS;
 
 mod gathering;
 
-// As a table's rows, in an array with their count beside it and with no model: offers are `Copy` and need no heap.
+// As a table's rows, in an array with their count beside it and with no model: offers are `Copy` and need no heap. A type
+// shared with the plan would carry the same two facts, and no more.
 /// All offers to one thief, by rising number.
 #[derive(Clone, Copy)]
 pub struct Offers {
@@ -27,26 +28,20 @@ fn shown(row: &Row, at: Instant, deadline: u32) -> Option<Offer>
 {
     let renewed = at.ticks + row.terms.period as u32;
     if row.account.deadline <= at.ticks {
-        if renewed <= deadline {
-            return Some(Offer {
-                server: row.number,
-                deadline: renewed,
-                capacity: row.terms.budget,
-            });
-        }
-        return None;
-    }
-    if row.account.deadline <= deadline && row.account.capacity > 0 {
-        return Some(Offer {
+        return (renewed <= deadline).then_some(Offer {
             server: row.number,
-            deadline: row.account.deadline,
-            capacity: row.account.capacity,
+            deadline: renewed,
+            capacity: row.terms.budget,
         });
     }
-    None
+    (row.account.deadline <= deadline && row.account.capacity > 0).then_some(Offer {
+        server: row.number,
+        deadline: row.account.deadline,
+        capacity: row.account.capacity,
+    })
 }
 
-// By a function, as the rules name it: row, instant and deadline meet here alone.
+// By a function, as the rules name it: row, instant and deadline meet here and in `shown` alone.
 /// What a row offers a thief with this deadline, if anything: only a resting row that is not isolated does.
 pub fn offer_of(row: &Row, at: Instant, deadline: u32) -> Option<Offer>
     ensures { result ≡ offer_of at.ticks deadline row.now }

@@ -10,7 +10,7 @@ mod making;
 mod readers;
 mod turns;
 
-// The rows stand in an array with their count beside it: a table is `Copy` and needs no heap, and no collection of the
+// The rows stand in an array with their count beside it, by a rule of the project: a table is `Copy` and needs no heap, and no collection of the
 // library has both. It has no model, as one of a `Copy` type must give back the unused places too.
 /// The rows of all servers, in the places of their numbers.
 #[derive(Clone, Copy)]

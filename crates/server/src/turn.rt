@@ -13,7 +13,7 @@ pub enum Source {
     Stolen,
     /// What a server supplies, while nobody runs.
     Idle,
-    /// Nothing: nobody runs, and nobody pays. The rules give it a code of its own; a payment that is there has another source.
+    /// Nothing: nobody runs, and nobody pays. The rules give it a code of its own, and no payment that is made here has it.
     Empty,
 }
 

@@ -35,7 +35,8 @@ impl Place {
     }
 }
 
-// By a test first: `then_some` would make a width before the test, and there is none of no bits.
+// By a test first: `then_some` would make a width of no bits before the test, and in a closure handed to `then` the proof
+// does not know the test (tried).
 impl Width {
     /// A width of so many bits, if there are fields of it.
     pub fn new(bits: u8) -> Option<Width>

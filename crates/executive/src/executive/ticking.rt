@@ -4,9 +4,9 @@ ghost use Rattle.server.specs.Tick.{paid, finished_by, passed};
 ghost use Rattle.server.specs.Table.{table_rows};
 ghost use Rattle.executive.specs.Calls.{runner_number, payer_number, source_of, left_of, payer_deadline, payer_left, ticked_with, told_of};
 
-use crate::answer::{TickAnswer, who_runs};
+use crate::answer::{TickAnswer, runner_number, who_runs};
 use donor::DonorRule;
-use server::{Event, Instant, Row, Source, Table, Turn};
+use server::{Event, Instant, Payment, Row, Source, Table, Turn};
 
 // What is left of the capacity that this source is charged to.
 fn left_of(source: Source, row: &Row) -> u16
@@ -26,6 +26,7 @@ fn left_of(source: Source, row: &Row) -> u16
 pub(crate) struct Tick {
     pub(crate) at: Instant,
     pub(crate) turn: Turn,
+    // As the call was told.
     pub(crate) finished: bool,
 }
 
@@ -54,13 +55,14 @@ impl Tick {
     fn tell<R: DonorRule>(&self, rule: &mut R)
         ensures { rule.new ≡ told_of R.DonorRule.step (source_of self.now.turn.payment) rule.old self.now.at.ticks (runner_number self.now.turn.runner) (payer_number self.now.turn.payment) }
     {
-        let (thief, payer, source) = who_runs(self.turn);
-        match source {
-            Source::Stolen => rule.charged(self.at.ticks, thief, payer),
-            Source::Own => {}
-            Source::Residual => {}
-            Source::Idle => {}
-            Source::Empty => {}
+        if let Some(
+            Payment {
+                payer,
+                source: Source::Stolen,
+            },
+        ) = self.turn.payment
+        {
+            rule.charged(self.at.ticks, runner_number(self.turn.runner), payer);
         }
     }
 

@@ -4,7 +4,8 @@ ghost use Rattle.server.specs.Clock.{last_instant};
 
 use super::{Instant, LAST_INSTANT};
 
-// By tests first: `then_some` would make an instant before the test, and an instant past the last is none.
+// By tests first: `then_some` would make an instant past the last before the test, and in a closure handed to `then` the
+// proof does not know the test (tried).
 impl Instant {
     /// The instant of so many ticks, if the clock comes to it.
     pub fn new(ticks: u32) -> Option<Instant>

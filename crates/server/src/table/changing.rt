@@ -15,7 +15,8 @@ use crate::instant::Instant;
 use crate::row::{Event, Row};
 use crate::turn::Payment;
 
-// By rules of the project an event changes a row by value, which is then written back whole, and a row is lent to be charged. That each row
+// By rules of the project an event changes a row by value, which is then written back whole, and a row is lent to be charged, behind a
+// test of its place, since `get_mut` says nothing of the elements afterwards. That each row
 // keeps its limits depends on the instant, which no table has, so it stands in each contract and not in the type.
 impl Table {
     /// What an event does to the row of a server, if there is one of this number.
