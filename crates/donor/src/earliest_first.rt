@@ -26,7 +26,7 @@ impl DonorRule for EarliestFirst {
         ensures value { result ≡ earliest_choice offers.now }
         ensures earliest { IsEarliest (λ o. o.deadline) (λ o. o.server) (λ _. true) offers.now result }
     {
-        earliest(offers, |_| true)
+        earliest(offers, ())
     }
 
     fn charged(&mut self, _instant: u32, _thief: u16, _payer: u16) {}

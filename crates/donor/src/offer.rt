@@ -1,4 +1,6 @@
 // What a rule is shown: the servers that can be stolen from.
+ghost use Rattle.std.specs.Prelude.{true};
+
 use earliest::Contender;
 
 /// A resting server that an overloaded one may steal from: its number, and the deadline and the capacity
@@ -10,10 +12,15 @@ pub struct Offer {
     pub capacity: u16,
 }
 
+/// Every offer takes part when the earliest is sought.
 impl Contender for Offer {
+    type Ask = ();
+
     ghost deadline = { λ o. o.deadline };
 
     ghost number = { λ o. o.server };
+
+    ghost takes = { λ _ _. true };
 
     fn deadline(&self) -> u32 {
         self.deadline
@@ -21,5 +28,9 @@ impl Contender for Offer {
 
     fn number(&self) -> u16 {
         self.server
+    }
+
+    fn takes_part(&self, _ask: ()) -> bool {
+        true
     }
 }

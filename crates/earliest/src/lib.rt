@@ -5,4 +5,4 @@ pub mod contender;
 pub mod search;
 
 pub use contender::Contender;
-pub use search::earliest;
+pub use search::{earliest, earliest_where};

@@ -12,9 +12,19 @@ struct Best {
     number: u16,
 }
 
-/// The position of the earliest record that takes part: the one with the smallest deadline, then the
-/// smallest number. Nobody, where none takes part.
-pub fn earliest<C: Contender, F: Fn(&C) -> bool>(items: &[C], takes_part: F) -> Option<usize>
+/// The position of the earliest record that takes part, by the mark that it gives for what is asked: the one with the smallest
+/// deadline, then the smallest number. Nobody, where none takes part.
+pub fn earliest<C: Contender>(items: &[C], ask: C::Ask) -> Option<usize>
+    ensures inside { IfSome result (λ k. k < length items.now) }
+    ensures value { result ≡ earliest_of C.deadline C.number (C.takes ask) items.now }
+    ensures earliest { IsEarliest C.deadline C.number (C.takes ask) items.now result }
+{
+    earliest_where(items, |item| item.takes_part(ask))
+}
+
+/// The same by a test of the caller's, whatever the records' own mark: the closure says who takes part. It must be one that may
+/// always be called, and its answers must be known for more than the place of one of the records to be promised.
+pub fn earliest_where<C: Contender, F: Fn(&C) -> bool>(items: &[C], takes_part: F) -> Option<usize>
     requires { F.IsAlwaysCallable takes_part }
     ensures inside { IfSome result (λ k. k < length items.now) }
     ensures value { (takes : C → Bool) → Tells F.Fn takes_part takes → result ≡ earliest_of C.deadline C.number takes items.now }

@@ -1,44 +1,80 @@
--- The words of a line, taken one after another.
-use Rattle.std.proofs.Common.{◌≡◌, ℕ, suc, false, not, eqb, Bor, List, [], ◌∷◌, length, filter, Option, Some, None, sym, refl, ap, arith}
-use Rattle.std.proofs.lemmas.Bool.{ne_eqb}
-use Rattle.std.proofs.lemmas.Iterator.{YieldsList}
-use Rattle.std.specs.Iterator.{AlwaysYields}
+-- A line, from its first word on.
+use Rattle.std.proofs.Common.{◌≡◌, ℕ, suc, Bool, true, false, not, eqb, List, [], ◌∷◌, length, Bor, Option, Some, None, sym, refl, ap, ◌∙◌, one-add, arith}
+use Rattle.std.specs.Bool.{then_some}
+use Rattle.std.specs.List.{onto_first}
 use Rattle.std.specs.Option.{option_copied}
-use Rattle.plan_text.specs.Kinds.{kind_of}
-use Rattle.plan_text.specs.Numbers.{number_of}
-use Rattle.plan_text.specs.Words.{non_empty}
-use Rattle.plan_text.specs.Reading.{terms_from, terms_of, terms_of_taken}
+use Rattle.std.proofs.lemmas.Bool.{ne_eqb}
+use Rattle.plan_text.specs.Bytes.{blank, front, back}
+use Rattle.plan_text.specs.Words.{split, non_empty, words_in, with_taken}
+use Rattle.plan_text.specs.Reading.{terms_of, terms_of_taken}
 
-some_byte : (n : ℕ) → eqb (suc n) 0 ≡ false
-some_byte n = ne_eqb (suc n) 0 (λ e. omega arith)
+-- what is left to split where a piece ended: nothing at the end, else what follows the byte at the cut
+abbrev pub past_cut : (ℕ → Bool) → List ℕ → List (List ℕ)
+past_cut at [] = []
+past_cut at (b ∷ bs) = split at bs
 
-pub filter_non_empty : (ps : List (List ℕ)) → filter (λ p. not (eqb (length p) 0)) ps ≡ non_empty ps
-filter_non_empty [] = refl
-filter_non_empty ([] ∷ ps) = filter_non_empty ps
-filter_non_empty ((b ∷ p) ∷ ps) = rw (some_byte (length p)) (ap (λ l. (b ∷ p) ∷ l) (filter_non_empty ps))
+-- the first piece reaches to the first cut
+abbrev Cut : (ℕ → Bool) → List ℕ → Type 0
+Cut at bs = split at bs ≡ front (λ b. not (at b)) bs ∷ past_cut at (back (λ b. not (at b)) bs)
 
--- what four calls give suffices to tell what a line stands for
-module _ {S : Type 0} (steps : S → Option (Bor (List ℕ)) → S → Type 0) where
-  four_taken : (words : List (List ℕ)) (s₀ s₁ s₂ s₃ s₄ : S) (o₁ o₂ o₃ o₄ : Option (Bor (List ℕ))) → AlwaysYields steps (λ w. w.now) s₀ words
-      → steps s₀ o₁ s₁ → steps s₁ o₂ s₂ → steps s₂ o₃ s₃ → steps s₃ o₄ s₄ → terms_of words ≡ terms_of_taken (option_copied o₁) (option_copied o₂) (option_copied o₃) (option_copied o₄)
-  four_taken [] s₀ s₁ s₂ s₃ s₄ None o₂ o₃ o₄ e h₁ h₂ h₃ h₄ = refl
-  four_taken [] s₀ s₁ s₂ s₃ s₄ (Some k) o₂ o₃ o₄ e h₁ h₂ h₃ h₄ = absurd (e k s₁ h₁)
-  four_taken (w ∷ ws) s₀ s₁ s₂ s₃ s₄ None o₂ o₃ o₄ e h₁ h₂ h₃ h₄ = absurd (e.0 s₁ h₁)
-  four_taken (w ∷ []) s₀ s₁ s₂ s₃ s₄ (Some k) None o₃ o₄ e h₁ h₂ h₃ h₄ = refl
-  four_taken (w ∷ []) s₀ s₁ s₂ s₃ s₄ (Some k) (Some q) o₃ o₄ e h₁ h₂ h₃ h₄ = absurd ((e.1 k s₁ h₁).1 q s₂ h₂)
-  four_taken (w ∷ v ∷ ws) s₀ s₁ s₂ s₃ s₄ (Some k) None o₃ o₄ e h₁ h₂ h₃ h₄ = absurd ((e.1 k s₁ h₁).1.0 s₂ h₂)
-  four_taken (w ∷ v ∷ []) s₀ s₁ s₂ s₃ s₄ (Some k) (Some q) None o₄ e h₁ h₂ h₃ h₄ = refl
-  four_taken (w ∷ v ∷ []) s₀ s₁ s₂ s₃ s₄ (Some k) (Some q) (Some t) o₄ e h₁ h₂ h₃ h₄ = absurd (((e.1 k s₁ h₁).1.1 q s₂ h₂).1 t s₃ h₃)
-  four_taken (w ∷ v ∷ x ∷ ws) s₀ s₁ s₂ s₃ s₄ (Some k) (Some q) None o₄ e h₁ h₂ h₃ h₄ = absurd (((e.1 k s₁ h₁).1.1 q s₂ h₂).1.0 s₃ h₃)
-  four_taken (w ∷ v ∷ x ∷ []) s₀ s₁ s₂ s₃ s₄ (Some k) (Some q) (Some t) None e h₁ h₂ h₃ h₄ =
-      let one = e.1 k s₁ h₁ in
-      let two = one.1.1 q s₂ h₂ in
-      let three = two.1.1 t s₃ h₃ in
-      λ i. terms_from (kind_of (sym one.0 i)) (number_of (sym two.0 i)) (number_of (sym three.0 i))
-  four_taken (w ∷ v ∷ x ∷ []) s₀ s₁ s₂ s₃ s₄ (Some k) (Some q) (Some t) (Some u) e h₁ h₂ h₃ h₄ = absurd ((((e.1 k s₁ h₁).1.1 q s₂ h₂).1.1 t s₃ h₃).1 u s₄ h₄)
-  four_taken (w ∷ v ∷ x ∷ y ∷ ws) s₀ s₁ s₂ s₃ s₄ (Some k) (Some q) (Some t) None e h₁ h₂ h₃ h₄ = absurd ((((e.1 k s₁ h₁).1.1 q s₂ h₂).1.1 t s₃ h₃).1.0 s₄ h₄)
-  four_taken (w ∷ v ∷ x ∷ y ∷ ws) s₀ s₁ s₂ s₃ s₄ (Some k) (Some q) (Some t) (Some u) e h₁ h₂ h₃ h₄ = refl
+cut_more : (at : ℕ → Bool) (b : ℕ) (bs : List ℕ) (r : Bool) → at b ≡ r → Cut at bs → Cut at (b ∷ bs)
+cut_more at b bs true e rest = rw e
+cut_more at b bs false e rest = rw (e, one-add) (ap (onto_first b) rest)
 
-pub four_words : {S : Type 0} {steps : S → Option (Bor (List ℕ)) → S → Type 0} {words : List (List ℕ)} (s₀ s₁ s₂ s₃ s₄ : S) (o₁ o₂ o₃ o₄ : Option (Bor (List ℕ))) → YieldsList steps (λ w. w.now) s₀ words
-    → steps s₀ o₁ s₁ → steps s₁ o₂ s₂ → steps s₂ o₃ s₃ → steps s₃ o₄ s₄ → terms_of words ≡ terms_of_taken (option_copied o₁) (option_copied o₂) (option_copied o₃) (option_copied o₄)
-four_words {S} {steps} {words} s₀ s₁ s₂ s₃ s₄ o₁ o₂ o₃ o₄ chain = four_taken steps words s₀ s₁ s₂ s₃ s₄ o₁ o₂ o₃ o₄ chain.runs
+pub split_first : (at : ℕ → Bool) (bs : List ℕ) → Cut at bs
+split_first at [] = refl
+split_first at (b ∷ bs) = cut_more at b bs (at b) refl (split_first at bs)
+
+-- one word in front of the others, where the word is not empty; else there are none
+abbrev with_word : List ℕ → List (List ℕ) → List (List ℕ)
+with_word [] ws = []
+with_word (b ∷ w) ws = (b ∷ w) ∷ ws
+
+module _ (at : ℕ → Bool) where
+  -- the words of bs, from its first one on
+  abbrev Words : List ℕ → Type 0
+  Words bs = non_empty (split at bs) ≡ with_word (front (λ b. not (at b)) (back at bs)) (non_empty (split at (back (λ b. not (at b)) (back at bs))))
+
+  -- the byte at a cut starts no word
+  abbrev Past : List ℕ → Type 0
+  Past bs = non_empty (past_cut at (back (λ b. not (at b)) bs)) ≡ non_empty (split at (back (λ b. not (at b)) bs))
+
+  past_more : (b : ℕ) (bs : List ℕ) (r : Bool) → at b ≡ r → Past bs → Past (b ∷ bs)
+  past_more b bs true e rest = rw (e, e)
+  past_more b bs false e rest = rw (e, one-add) rest
+
+  past_cut_lem : (bs : List ℕ) → Past bs
+  past_cut_lem [] = refl
+  past_cut_lem (b ∷ bs) = past_more b bs (at b) refl (past_cut_lem bs)
+
+  words_more : (b : ℕ) (bs : List ℕ) (r : Bool) → at b ≡ r → Words bs → Words (b ∷ bs)
+  words_more b bs true e rest = rw (e, one-add) rest
+  words_more b bs false e rest =
+      rw (e, e, one-add)
+      (ap (λ ps. non_empty (onto_first b ps)) (split_first at bs)
+      ∙ ap (λ ws. (b ∷ front (λ x. not (at x)) bs) ∷ ws) (past_cut_lem bs))
+
+  words_first : (bs : List ℕ) → Words bs
+  words_first [] = refl
+  words_first (b ∷ bs) = words_more b bs (at b) refl (words_first bs)
+
+-- the length of a word that is not empty passes no test for 0
+some_word : (n : ℕ) → eqb (suc n) 0 ≡ false
+some_word n = ne_eqb (suc n) 0 (λ e. omega arith)
+
+-- a word is taken where it is not empty
+taken : (w : Bor (List ℕ)) (word : List ℕ) (ws : List (List ℕ)) → w.now ≡ word → with_word word ws ≡ with_taken (option_copied (then_some (not (eqb (length word) 0)) w)) ws
+taken w [] ws is = refl
+taken w (b ∷ bs) ws is = rw (some_word (length bs)) (ap (λ (x : List ℕ). x ∷ ws) (sym is))
+
+pub word_taken : (bs : List ℕ) (w : Bor (List ℕ)) (rest : List ℕ) → w.now ≡ front (λ b. not (blank b)) (back blank bs) → rest ≡ back (λ b. not (blank b)) (back blank bs) → words_in bs ≡ with_taken (option_copied (then_some (not (eqb (length w.now) 0)) w)) (words_in rest)
+word_taken bs w rest first others =
+    words_first blank bs ∙ (λ i. with_word (sym first i) (words_in (sym others i))) ∙ taken w w.now (words_in rest) refl
+
+-- what four words in turn were suffices to tell what a line stands for
+pub four_taken : (o₁ o₂ o₃ o₄ : Option (List ℕ)) (more : List (List ℕ)) → terms_of (with_taken o₁ (with_taken o₂ (with_taken o₃ (with_taken o₄ more)))) ≡ terms_of_taken o₁ o₂ o₃ o₄
+four_taken None o₂ o₃ o₄ more = refl
+four_taken (Some k) None o₃ o₄ more = refl
+four_taken (Some k) (Some q) None o₄ more = refl
+four_taken (Some k) (Some q) (Some t) None more = refl
+four_taken (Some k) (Some q) (Some t) (Some u) more = refl

@@ -1,5 +1,5 @@
 -- How a text is cut into lines, and a line into words.
-use Rattle.std.specs.Prelude.{ℕ, Bool, List, [], ◌∷◌}
+use Rattle.std.specs.Prelude.{ℕ, Bool, List, [], ◌∷◌, Option, Some, None}
 use Rattle.std.specs.List.{slice_split}
 use Rattle.plan_text.specs.Bytes.{newline, blank, in_code, front}
 
@@ -22,3 +22,12 @@ code_of line = front in_code line
 
 abbrev pub words_of : List ℕ → List (List ℕ)
 words_of line = non_empty (split blank (code_of line))
+
+-- the words of bytes that hold no comment
+abbrev pub words_in : List ℕ → List (List ℕ)
+words_in bs = non_empty (split blank bs)
+
+-- the words before one was taken, where ws are those after it: there were none where none was taken
+abbrev pub with_taken : Option (List ℕ) → List (List ℕ) → List (List ℕ)
+with_taken None ws = []
+with_taken (Some w) ws = w ∷ ws

@@ -1,27 +1,25 @@
 // Reading a written plan: a row to a line, added in order to a plan with no rows.
-ghost use Rattle.std.specs.Prelude.{◌≡◌};
+ghost use Rattle.std.specs.Prelude.{◌≡◌, Some};
 ghost use Rattle.std.specs.Option.{option_copied};
 ghost use Rattle.plan_text.specs.Words.{words_of};
 ghost use Rattle.plan_text.specs.Reading.{terms_of, terms_of_taken, rows_after_line, plan_of_text, answer_of, rows_or};
 ghost use Rattle.plan.specs.Plan.{rows_of};
 
 use crate::fault::{LineFault, TextFault};
-use crate::words::{is_blank, kind, number, without_comment};
+use crate::words::{Words, kind, number, without_comment};
 use plan::{Plan, Terms};
 
-/// The terms that the first four words of a line stand for, as far as it has so many: none if it has
-/// no words at all.
+/// The terms that the first four words of a line stand for, as far as it has so many.
 fn terms_of(
-    first: Option<&[u8]>,
+    first: &[u8],
     second: Option<&[u8]>,
     third: Option<&[u8]>,
     fourth: Option<&[u8]>,
 ) -> Result<Option<Terms>, LineFault>
-    ensures { result ≡ terms_of_taken (option_copied first.entry) (option_copied second.entry) (option_copied third.entry) (option_copied fourth.entry) }
+    ensures { result ≡ terms_of_taken (Some first.now) (option_copied second.entry) (option_copied third.entry) (option_copied fourth.entry) }
 {
-    match (first, second, third, fourth) {
-        (None, _, _, _) => Ok(None),
-        (Some(first), Some(second), Some(third), None) => Ok(Some(Terms {
+    match (second, third, fourth) {
+        (Some(second), Some(third), None) => Ok(Some(Terms {
             kind: kind(first).ok_or(LineFault::Kind)?,
             budget: number(second).ok_or(LineFault::Number)?,
             period: number(third).ok_or(LineFault::Number)?,
@@ -34,10 +32,16 @@ fn terms_of(
 fn parse_line(line: &[u8]) -> Result<Option<Terms>, LineFault>
     ensures { result ≡ terms_of (words_of line.now) }
 {
-    let mut words = without_comment(line)
-        .split(|byte| is_blank(*byte))
-        .filter(|word| !word.is_empty());
-    terms_of(words.next(), words.next(), words.next(), words.next())
+    let mut words = Words::of(without_comment(line));
+    let Some(first) = words.take_word() else {
+        return Ok(None);
+    };
+    terms_of(
+        first,
+        words.take_word(),
+        words.take_word(),
+        words.take_word(),
+    )
 }
 
 /// Adds the row that a line stands for, if it stands for one. On a fault the plan is as it was.

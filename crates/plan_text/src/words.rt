@@ -1,7 +1,8 @@
 // The lines of a text, the words of a line, and what one word stands for.
 ghost use Rattle.std.specs.Prelude.{◌≡◌};
-ghost use Rattle.plan_text.specs.Bytes.{blank};
-ghost use Rattle.plan_text.specs.Words.{code_of};
+ghost use Rattle.std.specs.Option.{option_copied};
+ghost use Rattle.plan_text.specs.Bytes.{blank, in_word, front, back};
+ghost use Rattle.plan_text.specs.Words.{code_of, words_in, with_taken};
 ghost use Rattle.plan_text.specs.Kinds.{kind_word, kind_of};
 ghost use Rattle.plan_text.specs.Numbers.{number_of};
 
@@ -20,6 +21,48 @@ pub fn is_blank(byte: u8) -> bool
     ensures { result ≡ blank byte }
 {
     byte == b' ' || byte == b'\t' || byte == b'\r'
+}
+
+/// The bytes behind the blanks at the front.
+fn past_blanks(bytes: &[u8]) -> &[u8]
+    ensures { result.now ≡ back blank bytes.now }
+{
+    let end = bytes.iter().take_while(|byte| is_blank(**byte)).count();
+    bytes.split_at(end).1
+}
+
+/// The bytes up to the first blank, and those from there on.
+fn up_to_blank(bytes: &[u8]) -> (&[u8], &[u8])
+    ensures front { result.0.now ≡ front in_word bytes.now }
+    ensures back { result.1.now ≡ back in_word bytes.now }
+{
+    let length = bytes.iter().take_while(|byte| !is_blank(**byte)).count();
+    bytes.split_at(length)
+}
+
+// No `split` and `filter`: they give an empty piece for every blank, which takes twice the time where blanks are many.
+/// The words of a line that has no comment, taken from its front one after another.
+#[derive(Clone, Copy)]
+pub struct Words<'a> {
+    rest: &'a [u8],
+}
+
+impl<'a> Words<'a> {
+    /// The words of these bytes.
+    pub fn of(bytes: &'a [u8]) -> Words<'a>
+        ensures { result.rest.now ≡ bytes.now }
+    {
+        Words { rest: bytes }
+    }
+
+    /// The next word, if there is one.
+    pub fn take_word(&mut self) -> Option<&'a [u8]>
+        ensures { words_in self.old.rest.now ≡ with_taken (option_copied result) (words_in self.new.rest.now) }
+    {
+        let (word, rest) = up_to_blank(past_blanks(self.rest));
+        self.rest = rest;
+        (!word.is_empty()).then_some(word)
+    }
 }
 
 // By a function: a `Display` or `FromStr` would have to stand in the crate of kinds, and under a width, as in `{kind:<8}`, a

@@ -5,3 +5,4 @@ pub mod Tick
 pub mod Demand
 pub mod Table
 pub mod Gathered
+pub mod Marks

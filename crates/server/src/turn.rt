@@ -1,6 +1,7 @@
 // Who runs in a tick, who pays for it, and from what.
 mod contending;
 pub(crate) mod dispatching;
+mod marks;
 
 /// What a tick is charged to.
 #[derive(Clone, Copy, PartialEq, Eq, Debug)]

@@ -1,5 +1,6 @@
 // The three calls.
 ghost use Rattle.std.specs.Prelude.{◌≡◌};
+ghost use Rattle.server.specs.Demand.{Sound};
 ghost use Rattle.executive.specs.Calls.{arrive_answer, after_arrive, who_of, tick_of, ticked_by};
 
 use super::Executive;
@@ -15,6 +16,7 @@ impl<R: DonorRule> Executive<R> {
     pub fn arrive(&mut self, server: u16) -> Result<(), CallFault>
         ensures answer { result ≡ arrive_answer self.old.rows server }
         ensures state { self.new ≡ after_arrive self.old server }
+        ensures bound { Sound self.new.instant self.new.rows }
     {
         let row = self.table.row(server).ok_or(CallFault::NoServer)?;
         if row.account.jobs >= MOST_JOBS {
@@ -37,6 +39,7 @@ impl<R: DonorRule> Executive<R> {
     pub fn tick(&mut self, finished: bool) -> Result<TickAnswer, CallFault>
         ensures answer { result ≡ tick_of R.DonorRule.choice self.old finished }
         ensures state { self.new ≡ ticked_by R.DonorRule.choice R.DonorRule.step self.old finished }
+        ensures bound { Sound self.new.instant self.new.rows }
     {
         let next = self.instant.next().ok_or(CallFault::Clock)?;
         let turn = self.table.turn(&self.rule, self.instant);

@@ -27,7 +27,8 @@ impl Page {
 
     /// Whether the page has room for so many bytes more.
     pub fn has_room(&self, count: usize) -> bool
-        ensures { result ≡ nat_le count (page_bytes - length self.now) }
+        ensures room { result ≡ nat_le count (page_bytes - length self.now) }
+        ensures fits { length self.now ≤ page_bytes }
     {
         count <= self.bytes.remaining_capacity()
     }
@@ -52,6 +53,11 @@ impl Page {
     pub fn put_number(&mut self, n: u32)
         ensures { self.new ≡ fitting (self.old ++ decimal n) }
     {
+        // Most numbers of a line have one digit, which needs no buffer.
+        if n < 10 {
+            self.put(b'0' + n as u8);
+            return;
+        }
         let mut buffer = Buffer::new();
         let digits = buffer.format(n).as_bytes();
         for digit in digits {

@@ -1,4 +1,4 @@
-// Rows as contenders, by their own deadline: the earliest of a table is found by the one text there is for it.
+// The earliest row of a table, found by the one text there is for it.
 ghost use Rattle.std.specs.Prelude.{◌≡◌, Bool};
 ghost use Rattle.earliest.specs.Earliest.{Tells};
 ghost use Rattle.server.specs.declared.row.Row.{Row as ARow};
@@ -7,21 +7,7 @@ ghost use Rattle.server.specs.Turn.{earliest_row};
 
 use crate::row::Row;
 use crate::table::Table;
-use earliest::{Contender, earliest};
-
-impl Contender for Row {
-    ghost deadline = { λ row. row.account.deadline };
-
-    ghost number = { λ row. row.number };
-
-    fn deadline(&self) -> u32 {
-        self.account.deadline
-    }
-
-    fn number(&self) -> u16 {
-        self.number
-    }
-}
+use earliest::earliest_where;
 
 impl Table {
     // The place of the earliest row that takes part, if one does.
@@ -29,6 +15,6 @@ impl Table {
         requires { F.IsAlwaysCallable takes_part }
         ensures { (takes : ARow → Bool) → Tells F.Fn takes_part takes → result ≡ earliest_row takes (table_rows self.now) }
     {
-        earliest(self.rows(), takes_part).map(|place| place as u16)
+        earliest_where(self.rows(), takes_part).map(|place| place as u16)
     }
 }

@@ -3,11 +3,13 @@ ghost use Rattle.std.specs.Prelude.{◌≡◌, slice_index_or};
 ghost use Rattle.server.specs.Table.{table_rows};
 ghost use Rattle.server.specs.Turn.{blank_row, supplies, earliest_row, supplies_by, from_residual, from_own, from_theft, idle_payment, offers_to, payment_for, can_run, runner_of, payment_of};
 
+use super::marks::Mark;
 use super::{Payment, Source};
 use crate::instant::Instant;
 use crate::row::{Phase, Row};
 use crate::table::Table;
 use donor::DonorRule;
+use earliest::Contender;
 use plan::Terms;
 
 /// What decides a tick: the table, the donor rule and the instant.
@@ -73,20 +75,13 @@ impl<R: DonorRule> Dispatcher<'_, R> {
     }
 }
 
-// Whether a row has something to supply.
-fn supplies(row: &Row) -> bool
-    ensures { result ≡ supplies row.now }
-{
-    row.phase == Phase::Supplying && row.account.residual > 0
-}
-
 // What is supplied by a deadline: the earliest such row pays. The rules name it and the pay for idle time apart, and each is
 // one expression over the one search.
 fn from_residual(table: &Table, deadline: u32) -> Option<Payment>
     ensures { result ≡ from_residual (earliest_row (supplies_by deadline) (table_rows table.now)) }
 {
     table
-        .earliest(|row| supplies(row) && row.account.deadline <= deadline)
+        .earliest(|row| row.takes_part(Mark::SupplyingBy(deadline)))
         .map(|payer| Payment {
             payer,
             source: Source::Residual,
@@ -107,10 +102,12 @@ fn from_own(row: &Row) -> Option<Payment>
 fn for_idle_time(table: &Table) -> Option<Payment>
     ensures { result ≡ idle_payment (earliest_row supplies (table_rows table.now)) }
 {
-    table.earliest(supplies).map(|payer| Payment {
-        payer,
-        source: Source::Idle,
-    })
+    table
+        .earliest(|row| row.takes_part(Mark::Supplying))
+        .map(|payer| Payment {
+            payer,
+            source: Source::Idle,
+        })
 }
 
 // The row of a server; where there is none, one that has done nothing and has no terms.

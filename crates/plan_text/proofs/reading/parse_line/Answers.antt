@@ -1,19 +1,21 @@
 -- Four words suffice to tell what a line stands for.
-use Rattle.std.proofs.Common.{not, eqb, length, sym, ap, ◌∙◌, rules, tests}
-use Rattle.std.specs.List.{slice_split}
-use Rattle.std.proofs.lemmas.Iterator.Consumers.{YieldsList-at, YieldsList-from_filter}
-use Rattle.std.proofs.lemmas.Iterator.Splits.{YieldsList-from_slice_split}
-use Rattle.plan_text.specs.Bytes.{blank}
-use Rattle.plan_text.specs.Words.{non_empty}
+use Rattle.std.proofs.Common.{Some, sym, ap, ◌∙◌}
+use Rattle.std.specs.Option.{option_copied}
+use Rattle.plan_text.specs.Words.{words_in, with_taken}
 use Rattle.plan_text.specs.Reading.{terms_of}
-use Rattle.plan_text.proofs.Splitting.{filter_non_empty, four_words}
+use Rattle.plan_text.proofs.Splitting.{four_taken}
 use Rattle.plan_text.proofs.reading.parse_line.Goals as goal
 
 pub returns : goal.returns
 returns c =
-    let code = c.without_comment.result.now in
+    let o₁ = Some c.in-Some.first.now in
+    let o₂ = option_copied c.take_word-2.result in
+    let o₃ = option_copied c.take_word-3.result in
+    let o₄ = option_copied c.take_word-4.result in
+    let words =
+    c.take_word.ensures
+    ∙ ap (λ o. with_taken (option_copied o) (words_in c.take_word.new.self.rest.now)) c.in-Some.is
+    ∙ ap (with_taken o₁) (c.take_word-2.ensures ∙ ap (with_taken o₂) (c.take_word-3.ensures ∙ ap (with_taken o₃) c.take_word-4.ensures)) in
     c.terms_of.ensures
-    ∙ sym (four_words c.filter-words.result c.next.new.self c.next-2.new.self c.next-3.new.self c.next-4.new.self c.next.result c.next-2.result c.next-3.result c.next-4.result
-    (YieldsList-from_filter _ (λ w. not (eqb (length w) 0)) (YieldsList-at c.filter-words.ensures.source (YieldsList-from_slice_split _ blank code c.split.ensures.rest c.split.ensures.done c.split.ensures.closure (λ x b q k. search (rules, tests)))) c.filter-words.ensures.closure (λ x b q k. search (rules, tests)))
-    c.next.ensures.steps c.next-2.ensures.steps c.next-3.ensures.steps c.next-4.ensures.steps)
-    ∙ ap terms_of (filter_non_empty (slice_split blank code) ∙ ap (λ bs. non_empty (slice_split blank bs)) c.without_comment.ensures)
+    ∙ sym (four_taken o₁ o₂ o₃ o₄ (words_in c.take_word-4.new.self.rest.now))
+    ∙ ap terms_of (sym words ∙ ap words_in (c.of-words.ensures ∙ c.without_comment.ensures))

@@ -16,3 +16,6 @@ invariant_of-self g c =
     let next : c.in_ok-next.next.ticks ≡ suc t = grind (arith, common_steps) in
     let payment = turn.ensures.payment ∙ ap (payment_of choice t rows) turn.ensures.runner in
     tick_sound choice t c.args.finished rows (g.met.R.DonorRule.inside before.rule t) c.self.invariant turn.result.runner turn.result.payment turn.ensures.runner payment c.in_ok-next.next.ticks (table_rows c.carry_out-answer.new.table) next c.carry_out-answer.ensures.rows
+
+pub returns-clause-bound : goal.returns-clause-bound
+returns-clause-bound g c = invariant_of-self g c

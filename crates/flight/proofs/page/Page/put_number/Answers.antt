@@ -1,5 +1,5 @@
-use Rattle.std.proofs.Common.{◌≡◌, ℕ, zero, suc, ◌+◌, ◌<◌, List, [], ◌∷◌, ◌++◌, length, take, get_or, decimal, refl, ap, ◌∙◌, arith}
-use Rattle.std.proofs.lemmas.Fmt.{decimal_nonempty}
+use Rattle.std.proofs.Common.{◌≡◌, ℕ, zero, suc, ◌+◌, ◌<◌, List, [], ◌∷◌, ◌++◌, length, take, get_or, decimal, sym, refl, ap, ◌∙◌, arith}
+use Rattle.std.proofs.lemmas.Fmt.{decimal_digit, decimal_nonempty}
 use Rattle.std.proofs.lemmas.List.{take_all, take_more}
 use Rattle.flight.specs.Page.{fitting}
 use Rattle.flight.proofs.Fitting.{grown}
@@ -11,11 +11,14 @@ digit_more before middle after digits zero within untouched written put = rw (ta
 digit_more before middle after digits (suc i) within untouched written put =
     rw (take_more digits (suc i) 0 within) (grown before middle after (take (suc i) digits) (get_or digits (suc i) 0 ∷ []) (written (omega arith)) put)
 
+pub returns-then-n-lt10 : goal.returns-then-n-lt10
+returns-then-n-lt10 c = c.put.ensures ∙ ap (λ (digits : List ℕ). fitting (c.args.self.now ++ digits)) (sym (decimal_digit c.args.n (omega arith)))
+
 pub loop-digit-preserved : goal.loop-digit-preserved
 loop-digit-preserved c =
     record {
       untouched = λ none. absurd (omega arith);
-      written = λ _. digit_more c.args.self.now c.loop-digit.self c.put.new.self c.as_bytes-digits.result.now c.loop-digit.digit-index (omega arith) c.loop-digit.invariant.untouched c.loop-digit.invariant.written c.put.ensures;
+      written = λ _. digit_more c.args.self.now c.loop-digit.self c.put-in-loop-digit.new.self c.as_bytes-digits.result.now c.loop-digit.digit-index (omega arith) c.loop-digit.invariant.untouched c.loop-digit.invariant.written c.put-in-loop-digit.ensures;
     }
 
 pub returns : goal.returns

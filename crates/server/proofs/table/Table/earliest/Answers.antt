@@ -6,5 +6,5 @@ use Rattle.server.proofs.table.Table.earliest.Goals as goal
 
 pub returns : goal.returns
 returns g c = λ takes tells.
-    let same : c.map.result ≡ c.earliest.result = grind (arith, common_steps) in
-    same ∙ c.earliest.ensures.value takes tells ∙ ap (earliest_row takes) c.rows.ensures
+    let same : c.map.result ≡ c.earliest_where.result = grind (arith, common_steps) in
+    same ∙ c.earliest_where.ensures.value takes tells ∙ ap (earliest_row takes) c.rows.ensures

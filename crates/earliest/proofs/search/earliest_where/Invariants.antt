@@ -1,6 +1,6 @@
 use Rattle.std.proofs.Common.{◌≡◌, ◌<◌, Bool, drop, length, None, IfSome}
 use Rattle.earliest.specs.Earliest.{Tells, after_all}
-use Rattle.earliest.proofs.search.earliest.Given as goal
+use Rattle.earliest.proofs.search.earliest_where.Given as goal
 
 abbrev pub invariant-loop-position : goal.invariant-loop-position
 invariant-loop-position g l =
