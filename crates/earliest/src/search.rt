@@ -22,8 +22,9 @@ pub fn earliest<C: Contender>(items: &[C], ask: C::Ask) -> Option<usize>
     earliest_where(items, |item| item.takes_part(ask))
 }
 
-/// The same by a test of the caller's, whatever the records' own mark: the closure says who takes part. It must be one that may
-/// always be called, and its answers must be known for more than the place of one of the records to be promised.
+/// The same, where a closure says who takes part, whatever the records' own mark. The closure must be one that may always be
+/// called. Its answer is promised for each function that tells what the closure answers; where none is known, only that a
+/// position is one of the records.
 pub fn earliest_where<C: Contender, F: Fn(&C) -> bool>(items: &[C], takes_part: F) -> Option<usize>
     requires { F.IsAlwaysCallable takes_part }
     ensures inside { IfSome result (λ k. k < length items.now) }

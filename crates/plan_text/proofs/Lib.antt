@@ -1,4 +1,5 @@
 pub mod Numbers
+pub mod Fronts
 pub mod Splitting
 pub mod Lines
 pub mod Tables

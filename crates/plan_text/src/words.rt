@@ -57,7 +57,8 @@ impl<'a> Words<'a> {
 
     /// The next word, if there is one.
     pub fn take_word(&mut self) -> Option<&'a [u8]>
-        ensures { words_in self.old.rest.now ≡ with_taken (option_copied result) (words_in self.new.rest.now) }
+        ensures word { words_in self.old.rest.now ≡ with_taken (option_copied result) (words_in self.new.rest.now) }
+        ensures rest { self.new.rest.now ≡ back in_word (back blank self.old.rest.now) }
     {
         let (word, rest) = up_to_blank(past_blanks(self.rest));
         self.rest = rest;

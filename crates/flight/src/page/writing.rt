@@ -53,7 +53,7 @@ impl Page {
     pub fn put_number(&mut self, n: u32)
         ensures { self.new ≡ fitting (self.old ++ decimal n) }
     {
-        // Most numbers of a line have one digit, which needs no buffer.
+        // One digit needs no buffer.
         if n < 10 {
             self.put(b'0' + n as u8);
             return;
