@@ -1,7 +1,8 @@
 // The three calls.
-ghost use Rattle.std.specs.Prelude.{◌≡◌};
+ghost use Rattle.std.specs.Prelude.{◌≡◌, suc, Ok, None};
 ghost use Rattle.server.specs.Demand.{Sound};
-ghost use Rattle.executive.specs.Calls.{arrive_answer, after_arrive, who_of, tick_of, ticked_by};
+ghost use Rattle.server.specs.Turn.{runner_of};
+ghost use Rattle.executive.specs.Calls.{arrive_answer, after_arrive, who_of, choice_at, payment_at, tick_refusal, tick_of, ticked_by};
 
 use super::Executive;
 use super::ticking::Tick;
@@ -9,7 +10,7 @@ use crate::answer::{TickAnswer, who_runs};
 use crate::fault::CallFault;
 use donor::DonorRule;
 use server::row::MOST_JOBS;
-use server::{Event, Source};
+use server::{Event, Instant, Source, Turn};
 
 impl<R: DonorRule> Executive<R> {
     /// A job comes to a server. Refused where no server has this number, or where it has all jobs that it can count.
@@ -46,6 +47,19 @@ impl<R: DonorRule> Executive<R> {
         if finished && turn.runner.is_none() {
             return Err(CallFault::Finish);
         }
+        Ok(self.grant(turn, finished, next))
+    }
+
+    // A tick that nothing refuses is carried out. Apart from the call, so that what a refusal leaves is shown by itself.
+    fn grant(&mut self, turn: Turn, finished: bool, next: Instant) -> TickAnswer
+        requires next { next.ticks ≡ suc self.now.instant }
+        requires runner { turn.runner ≡ runner_of (choice_at R.DonorRule.choice self.now) self.now.instant self.now.rows }
+        requires payment { turn.payment ≡ payment_at (choice_at R.DonorRule.choice self.now) self.now.instant self.now.rows }
+        requires granted { tick_refusal (choice_at R.DonorRule.choice self.now) self.now.instant self.now.rows finished ≡ None }
+        ensures answer { Ok result ≡ tick_of R.DonorRule.choice self.old finished }
+        ensures state { self.new ≡ ticked_by R.DonorRule.choice R.DonorRule.step self.old finished }
+        ensures bound { Sound self.new.instant self.new.rows }
+    {
         let tick = Tick {
             at: self.instant,
             turn,
@@ -53,6 +67,6 @@ impl<R: DonorRule> Executive<R> {
         };
         let answer = tick.carry_out(&mut self.table, &mut self.rule, next);
         self.instant = next;
-        Ok(answer)
+        answer
     }
 }
